@@ -1,0 +1,18 @@
+use std::alloc::{AllocError, AllocFailed};
+
+/// The refusal for want of memory: a call that answers it has changed nothing that its contract
+/// names.
+#[derive(Clone, Copy, Debug, PartialEq, Eq)]
+pub struct Memory;
+
+impl From<AllocError> for Memory {
+    fn from(_error: AllocError) -> Memory {
+        Memory
+    }
+}
+
+impl<T: Drop> From<AllocFailed<T>> for Memory {
+    fn from(_error: AllocFailed<T>) -> Memory {
+        Memory
+    }
+}

@@ -1,0 +1,16 @@
+//! The trees of designs in the Lola profile, after Wirth's Lola-2.
+//!
+//! A source is a list of modules with ports, constants, registers, variables, instances and
+//! statements, all of which hold at once. Each node keeps the place of its token, an offset in bytes
+//! from 0, so that a later fault can name it. Definitions don't read these types: they read the pure
+//! trees of `specs/Tree.antt`, which hold no pointers, through the views there. How a text becomes a
+//! tree, and which trees are well formed, is not known here.
+#![tactic(auto)]
+
+mod expr;
+mod module;
+mod named;
+
+pub use expr::{Actual, Expr, Part};
+pub use module::{Const, Local, LocalKind, Module, Port, Source, Stmt, Way};
+pub use named::{Count, Named, Ref, Shape};
