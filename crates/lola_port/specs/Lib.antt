@@ -1,0 +1,5 @@
+pub mod Device
+pub mod Faults
+pub mod MemSink
+pub mod MemStore
+pub mod Outside

@@ -1,0 +1,91 @@
+ghost use Rattle.std.specs.Prelude.{◌≡◌, ◌≤◌, ℕ, List, length, IfOk, None};
+ghost use Rattle.lola_port.specs.Faults.{counts_of};
+
+use crate::faults::Faults;
+use crate::store::{Store, StoreError};
+use std::alloc::Global;
+use std::fs;
+use std::io::{ErrorKind, Read};
+use std::rt::Files;
+
+/// The files of the system, a name being a path. It tells no content.
+#[derive(Drop)]
+pub struct RealStore<R> {
+    files: R,
+    failed_reads: Faults,
+    failed_writes: Faults,
+}
+
+impl<R: Files> RealStore<R> {
+    /// The files that a runtime reaches; a reference to the runtime serves. The allocator is for
+    /// the counts. It allocates nothing yet.
+    pub fn new(alloc: Global, files: R) -> RealStore<R>
+        ensures reads { (name : List ℕ) → ⟦<RealStore<R> as Store>⟧.failed_reads result name ≡ 0 }
+        ensures writes { (name : List ℕ) → ⟦<RealStore<R> as Store>⟧.failed_writes result name ≡ 0 }
+    {
+        RealStore {
+            files,
+            failed_reads: Faults::new(alloc),
+            failed_writes: Faults::new(alloc),
+        }
+    }
+}
+
+// The place of the name's count is made before the file is touched, so that a fault of the file can
+// always be counted.
+impl<R: Files> Store for RealStore<R> {
+    ghost list = { λ _. None };
+
+    ghost failed_reads = { λ store. counts_of store.failed_reads };
+
+    ghost failed_writes = { λ store. counts_of store.failed_writes };
+
+    fn read_all(&mut self, alloc: Global, name: &str, limit: u64) -> Result<Vec<u8>, StoreError> {
+        if self.failed_reads.reserve(alloc, name).is_err() {
+            return Err(StoreError::Memory);
+        }
+        match read_file(&self.files, alloc, name, limit) {
+            Ok(bytes) => Ok(bytes),
+            Err(StoreError::Failed) => {
+                self.failed_reads.raise(name);
+                Err(StoreError::Failed)
+            }
+            Err(other) => Err(other),
+        }
+    }
+
+    fn write_all(&mut self, alloc: Global, name: &str, bytes: &[u8]) -> Result<(), StoreError> {
+        if self.failed_writes.reserve(alloc, name).is_err() {
+            return Err(StoreError::Memory);
+        }
+        match fs::write(&self.files, name, bytes) {
+            Ok(()) => Ok(()),
+            Err(_) => {
+                self.failed_writes.raise(name);
+                Err(StoreError::Failed)
+            }
+        }
+    }
+}
+
+/// The bytes of a file. No more than one byte past the limit is read.
+fn read_file<R: Files>(
+    files: &R,
+    alloc: Global,
+    name: &str,
+    limit: u64,
+) -> Result<Vec<u8>, StoreError>
+    ensures { IfOk result (λ bytes. length bytes.items ≤ limit) }
+{
+    let mut bytes = Vec::new(alloc);
+    let read = match fs::open(files, name) {
+        Ok(file) => file.take(limit.saturating_add(1)).read_to_end(&mut bytes),
+        Err(error) => Err(error),
+    };
+    match read {
+        Ok(_) if bytes.len() as u64 <= limit => Ok(bytes),
+        Ok(_) => Err(StoreError::TooLong),
+        Err(error) if error.kind() == ErrorKind::OutOfMemory => Err(StoreError::Memory),
+        Err(_) => Err(StoreError::Failed),
+    }
+}
