@@ -1,7 +1,7 @@
 -- The trees that definitions read. They hold no pointers, so two designs that are spelled alike have
 -- one tree; each node keeps its place. Names are lists of bytes. What contains no expression is read
 -- as the code has it.
-use Rattle.std.specs.Prelude.{ℕ, List, [], ◌∷◌, map, Option, Some, None}
+use Rattle.std.specs.Prelude.{ℕ, List, map, Option, Some, None}
 use Rattle.lola_bits.specs.declared.op.Op.{Op}
 use Rattle.lola_tree.specs.declared.named.Named.{Named}
 use Rattle.lola_tree.specs.declared.named.Count.{Count}

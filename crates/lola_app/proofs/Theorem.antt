@@ -1,0 +1,158 @@
+-- Where all obligations hold, the headline holds.
+use Rattle.std.proofs.Common.{◌≡◌, ℕ, zero, suc, ◌-◌, ◌<◌, ◌≤◌, true, List, [], ◌∷◌, ◌++◌, length, map, take, drop, filter, refl, sym, ap, ap₂, ◌∙◌, subst, arith, inl, inr}
+use Rattle.std.specs.Prelude.{flat_map}
+use Rattle.std.specs.List.{AllByRecursion}
+use Rattle.std.proofs.lemmas.List.{length-take-le}
+use Rattle.lola_tree.specs.declared.named.Ref.{Ref}
+use Rattle.lola_tree.specs.Tree.{SourceTree}
+use Rattle.lola_tree.specs.Value.{Values, value}
+use Rattle.lola_tree.specs.Cycle.{IsIn, IsState, IsGiven, Cycle, Next, Run, input_at}
+use Rattle.lola_app.specs.Table.{StateTree, SetTree, ClassTree, TableTree, Arch, Answer, IsClass, fits, register_names, no_names, class_names, state_value, set_value, set_states, cycles_of, answer_at, Boundary, first, after, Access, idle}
+use Rattle.lola_app.specs.Headline.{shown, shown_word, Shows, IsIdle, is_unstalled, unstalled, answer_of, answers_of, Sees, Starts, Commutes, Resets}
+use Rattle.lola_app.specs.Obligations.{start, state, reset, ends, class_obligations, Premises, HoldsAlways, AllHold}
+use Rattle.lola_app.specs.Small.{IsSmallSource, IsSmallTable, HasOnePhase}
+use Rattle.lola_app.proofs.Bits.{of_all, next_state}
+
+-- the parts of a list where all have a property
+all_left : {X : Type 0} (P : X → Type 0) (xs ys : List X) → AllByRecursion P (xs ++ ys) → AllByRecursion P xs
+all_left P [] ys all = tt
+all_left P (x ∷ xs) ys all = (all.0, all_left P xs ys all.1)
+
+all_right : {X : Type 0} (P : X → Type 0) (xs ys : List X) → AllByRecursion P (xs ++ ys) → AllByRecursion P ys
+all_right P [] ys all = all
+all_right P (x ∷ xs) ys all = all_right P xs ys all.1
+
+all_mapped : {X Y : Type 0} (P : Y → Type 0) (f : X → Y) (xs : List X) → AllByRecursion P (map f xs) → AllByRecursion (λ x. P (f x)) xs
+all_mapped P f [] all = tt
+all_mapped P f (x ∷ xs) all = (all.0, all_mapped P f xs all.1)
+
+all_flat : {X Y : Type 0} (P : Y → Type 0) (f : X → List Y) (x : X) (xs : List X) → AllByRecursion P (flat_map f xs) → IsIn x xs → AllByRecursion P (f x)
+all_flat P f x [] all among = absurd among
+all_flat P f x (y ∷ ys) all (inl same) = subst (λ z. AllByRecursion P (f z)) (sym same) (all_left P (f y) (flat_map f ys) all)
+all_flat P f x (y ∷ ys) all (inr later) = all_flat P f x ys (all_right P (f y) (flat_map f ys) all) later
+
+-- without STALL the unstalled inputs are all
+all_unstalled : (T : TableTree) (inputs : List Values) → filter (is_unstalled T) inputs ≡ inputs
+all_unstalled T [] = refl
+all_unstalled T (inp ∷ inputs) = ap (λ (xs : List Values). inp ∷ xs) (all_unstalled T inputs)
+
+count_is : (T : TableTree) (inputs : List Values) (c : ℕ) → c ≤ length inputs → unstalled T (take c inputs) ≡ c
+count_is T inputs c within = ap length (all_unstalled T (take c inputs)) ∙ length-take-le c inputs within
+
+answers_are : (T : TableTree) (inputs : List Values) → answers_of T inputs ≡ map (answer_of T) inputs
+answers_are T inputs = ap (map (answer_of T)) (all_unstalled T inputs)
+
+-- the answer of a cycle
+answer_is : (T : TableTree) (inputs : List Values) (c : ℕ) → c < length inputs → answer_at (drop c (map (answer_of T) inputs)) 0 ≡ answer_of T (input_at inputs c)
+answer_is T [] c within = absurd (omega arith)
+answer_is T (inp ∷ inputs) zero within = refl
+answer_is T (inp ∷ inputs) (suc c) within = answer_is T inputs c (omega arith)
+
+-- the input of a cycle has what all inputs have
+input_has : (P : Values → Type 0) (inputs : List Values) (c : ℕ) → AllByRecursion P inputs → c < length inputs → P (input_at inputs c)
+input_has P [] c all within = absurd (omega arith)
+input_has P (inp ∷ inputs) zero all within = all.0
+input_has P (inp ∷ inputs) (suc c) all within = input_has P inputs c all.1 (omega arith)
+
+-- every state of a run is a state
+states_are : (S : SourceTree) (inputs : List Values) (s v : ℕ → Values) → IsSmallSource S → Run S inputs s v → AllByRecursion (IsGiven S) inputs → IsState S (s 0) → (c : ℕ) → c ≤ length inputs → IsState S (s c)
+states_are S inputs s v small run given at_first zero within = at_first
+states_are S inputs s v small run given at_first (suc c) within =
+    next_state S (s c) (input_at inputs c) (v c) (s (suc c)) small (states_are S inputs s v small run given at_first c (omega arith))
+    (input_has (IsGiven S) inputs c given (omega arith)) (run.cycle c (omega arith)) (run.next c (omega arith))
+
+-- the states after an instruction, row by row
+shown_next : (sets : List SetTree) (rows : List StateTree) (s s' : Values) (names : Ref → ℕ) →
+    AllByRecursion (λ (row : StateTree). value row.shown (register_names s') ≡ set_value sets row.name (value row.shown (register_names s)) names) rows →
+    map (λ (row : StateTree). value row.shown (register_names s')) rows ≡ set_states rows (map (λ (row : StateTree). value row.shown (register_names s)) rows) sets names
+shown_next sets [] s s' names all = refl
+shown_next sets (row ∷ rows) s s' names all = ap₂ (λ (a : ℕ) (as' : List ℕ). a ∷ as') all.0 (shown_next sets rows s s' names all.1)
+
+-- the obligations by name
+module _ (S : SourceTree) (T : TableTree) (all : AllHold S T) where
+  of_reset : AllByRecursion (λ (row : SetTree). HoldsAlways S T (reset (start row))) T.starts
+  of_reset = all_mapped (HoldsAlways S T) (λ (row : SetTree). reset (start row)) T.starts
+      (all_left (HoldsAlways S T) (map (λ (row : SetTree). reset (start row)) T.starts) (flat_map (class_obligations T) T.classes) all.each.1.1.1)
+
+  of_class : (c : ClassTree) → IsIn c T.classes → AllByRecursion (HoldsAlways S T) (class_obligations T c)
+  of_class c among = all_flat (HoldsAlways S T) (class_obligations T) c T.classes
+      (all_right (HoldsAlways S T) (map (λ (row : SetTree). reset (start row)) T.starts) (flat_map (class_obligations T) T.classes) all.each.1.1.1) among
+
+-- a property of each item from one that is stronger
+weaker : {X : Type 0} (P Q : X → Type 0) → ((x : X) → P x → Q x) → (xs : List X) → AllByRecursion P xs → AllByRecursion Q xs
+weaker P Q f [] all = tt
+weaker P Q f (x ∷ xs) all = (f x all.0, weaker P Q f xs all.1)
+
+resets : (S : SourceTree) (T : TableTree) → AllHold S T → Resets S T
+resets S T all = record {
+  shows = λ s inp v s' is given active unstalled' cycle next. record {
+    invariant = all.each.1.0 s inp v s' is given active cycle next;
+    boundary = all.each.1.1.0 s inp v s' is given active cycle next;
+    states = refl;
+    code = refl;
+  };
+  starts = λ s inp v s' is given active unstalled' cycle next.
+      weaker (λ (row : SetTree). HoldsAlways S T (reset (start row))) (λ (row : SetTree). state_value T.states (shown T s') row.name ≡ value row.value no_names)
+      (λ row holds'. holds' s inp v s' is given active cycle next) T.starts (of_reset S T all);
+}
+
+-- one instruction: from a boundary to the next
+step : (S : SourceTree) (T : TableTree) → AllHold S T → (c : ClassTree) (s inp v s' : Values) (A : Arch) (word : ℕ) → IsState S s → IsGiven S inp → IsIdle T inp → Cycle S s inp v → Next S v s' → IsClass T word c → Shows T s A word →
+    Shows T s' (set_states T.states A c.sets (class_names T A word (answer_of T inp).loaded)) 0
+step S T all c s inp v s' A word is given still cycle next class shows =
+    let obliged = of_class S T all c class.listed in
+    let premises : Premises T c s = record { invariant = shows.invariant; boundary = shows.boundary; fit = subst (λ w. fits c.pattern w ≡ true) (sym shows.code) class.fit } in
+    let rows = weaker (λ (row : StateTree). HoldsAlways S T (ends c 0 (state row)))
+    (λ (row : StateTree). value row.shown (register_names s') ≡ set_value c.sets row.name (value row.shown (register_names s)) (class_names T (shown T s) (shown_word T s) (answer_of T inp).loaded))
+    (λ row holds'. holds' s inp v s' is given still cycle next premises) T.states (all_mapped (HoldsAlways S T) (λ (row : StateTree). ends c 0 (state row)) T.states obliged.1.1) in
+    record {
+      invariant = obliged.0 s inp v s' is given still cycle next premises;
+      boundary = obliged.1.0 s inp v s' is given still cycle next premises;
+      states = shown_next c.sets T.states s s' (class_names T (shown T s) (shown_word T s) (answer_of T inp).loaded) rows
+          ∙ ap₂ (λ (B : Arch) (w : ℕ). set_states T.states B c.sets (class_names T B w (answer_of T inp).loaded)) shows.states shows.code;
+      code = refl;
+    }
+
+-- no word is fetched: the next word is 0
+code_is : (T : TableTree) (inputs : List Values) (n k : ℕ) → (answer_at (drop n (map (answer_of T) inputs)) k).code ≡ 0
+code_is T [] zero k = refl
+code_is T [] (suc n) k = refl
+code_is T (inp ∷ inputs) zero zero = refl
+code_is T (inp ∷ inputs) zero (suc k) = code_is T inputs zero k
+code_is T (inp ∷ inputs) (suc n) k = code_is T inputs n k
+
+-- a state shows at each boundary what the table gives
+at_boundary : (S : SourceTree) (T : TableTree) → IsSmallSource S → IsSmallTable T → AllHold S T → (inputs : List Values) (s v : ℕ → Values) (A : Arch) (i : ℕ) → Starts S T inputs s v A i → {B : Arch} {j b : ℕ} → Boundary T (answers_of T inputs) A i B j b → b ≤ length inputs → Shows T (s b) B j
+at_boundary S T small fits' all inputs s v A i starts {B = B} {j = j} {b = b} (first eB ej eb) within =
+    subst (λ (n : ℕ). Shows T (s n) B j) (sym eb) (subst (λ (w : ℕ). Shows T (s 0) B w) (sym ej) (subst (λ (C : Arch). Shows T (s 0) C i) (sym eB) starts.shows))
+at_boundary S T small fits' all inputs s v A i starts {B = B} {j = j} {b = b} (after before word at c earlier class room eB ej eb) within =
+    let one : cycles_of c ≡ 1 = of_all HasOnePhase c T.classes fits'.one_phase class.listed in
+    let next_b : b ≡ suc at = omega arith in
+    let inside : at < length inputs = omega arith in
+    let shows = at_boundary S T small fits' all inputs s v A i starts earlier (omega arith) in
+    let answers = answers_are T inputs in
+    let inp = input_at inputs at in
+    let stepped = step S T all c (s at) inp (v at) (s (suc at)) before word
+    (states_are S inputs s v small starts.run starts.given starts.state at (omega arith))
+    (input_has (IsGiven S) inputs at starts.given inside) (input_has (IsIdle T) inputs at starts.idle inside)
+    (starts.run.cycle at inside) (starts.run.next at inside) class shows in
+    let answer : answer_at (drop at (answers_of T inputs)) 0 ≡ answer_of T inp = ap (λ (xs : List Answer). answer_at (drop at xs) 0) answers ∙ answer_is T inputs at inside in
+    let arch : set_states T.states before c.sets (class_names T before word (answer_of T inp).loaded) ≡ B =
+    ap (λ (a : Answer). set_states T.states before c.sets (class_names T before word a.loaded)) (sym answer) ∙ sym eB in
+    let code : 0 ≡ j = sym (ej ∙ ap (λ (xs : List Answer). (answer_at (drop at xs) (cycles_of c - 1)).code) answers ∙ code_is T inputs at (cycles_of c - 1)) in
+    subst (λ (n : ℕ). Shows T (s n) B j) (sym next_b)
+    (subst (λ (w : ℕ). Shows T (s (suc at)) B w) code (subst (λ (C : Arch). Shows T (s (suc at)) C 0) arch stepped))
+
+sees : (T : TableTree) (v : Values) (access : Access) → Sees T v access
+sees T v idle = tt
+
+pub holds : (S : SourceTree) (T : TableTree) → IsSmallSource S → IsSmallTable T → AllHold S T → Resets S T × Commutes S T
+holds S T small fits' all = (
+  resets S T all,
+  record {
+    boundaries = λ inputs s v A i starts B j b c at_b within count lasts.
+        subst (λ (n : ℕ). Shows T (s n) B j) (sym count ∙ count_is T inputs c within)
+        (at_boundary S T small fits' all inputs s v A i starts at_b (subst (λ (n : ℕ). n ≤ length inputs) (sym (count_is T inputs c within) ∙ count) within));
+    accesses = λ inputs s v A i starts c access within unstalled' row. sees T (v c) access;
+  },
+)

@@ -1,0 +1,9 @@
+pub mod Headline
+pub mod Logic
+pub mod Obligations
+pub mod Printing
+pub mod Reply
+pub mod Serve
+pub mod Small
+pub mod Status
+pub mod Table

@@ -1,0 +1,33 @@
+//! The commands of the workbench over any store and any sink.
+//!
+//! `serve` takes the words of a command, reads its files, carries it out and prints one text. Its
+//! contract says when each outcome comes, and that the status and the text are that outcome's. The
+//! parts that decide designs of one-bit registers stand here as modules, each behind the name of the
+//! crate that it will move to. Files and output are known by the meanings of `lola_port` alone: what
+//! a file system or a terminal does is not known here.
+#![tactic(auto)]
+
+// designs and tables of the small form
+mod claim;
+mod design;
+mod logic;
+mod scope;
+mod table;
+mod table_reader;
+
+// obligations, and deciding them
+mod decide;
+mod laws;
+mod obligation;
+mod texts;
+
+// commands
+mod command;
+mod printer;
+mod reply;
+mod status;
+mod words;
+
+pub use command::serve;
+pub use laws::headline;
+pub use status::{Status, status_number};

@@ -1,0 +1,315 @@
+ghost use Rattle.std.specs.Prelude.{ℕ, ◌<◌, ◌≤◌, length, IfOk};
+
+use crate::cursor::Cursor;
+use crate::fault::Fault;
+use crate::made::{
+    binary, choice_of, concat_of, index_of, not_of, number, only, part_of, whole, with_part,
+};
+use crate::reference::{begins_slice, bit, reference, slice, times};
+use crate::symbol::{Language, Symbol};
+use lola_bits::Op;
+use lola_tree::{Expr, Part, Ref};
+use std::alloc::Global;
+
+/// How many tokens an outermost expression may have.
+const LIMIT: usize = 512;
+
+/// An outermost expression at the front, and what stands behind it. It has at most 512 tokens; where
+/// the 513th would go on, the answer is Long.
+pub fn outermost<'a>(
+    alloc: Global,
+    language: Language,
+    here: Cursor<'a>,
+) -> Result<(Expr, Cursor<'a>), Fault>
+    ensures shorter { IfOk result (λ read. length read.1 < length here.entry) }
+{
+    let floor = here.left().saturating_sub(LIMIT);
+    let descent = Descent {
+        alloc,
+        language,
+        floor,
+    };
+    match descent.expr(here) {
+        Ok((tree, behind)) => {
+            if behind.left() < floor {
+                Err(Fault::Long { left: floor })
+            } else {
+                Ok((Box::into_inner(tree), behind))
+            }
+        }
+        Err(fault) => Err(within(floor, fault)),
+    }
+}
+
+/// The fault of an outermost expression: past the limit it is that the expression is too long.
+fn within(floor: usize, fault: Fault) -> Fault {
+    match fault {
+        Fault::Syntax { left } => {
+            if left < floor {
+                Fault::Long { left: floor }
+            } else {
+                Fault::Syntax { left }
+            }
+        }
+        Fault::Long { left: _ } => Fault::Long { left: floor },
+        Fault::Memory => Fault::Memory,
+    }
+}
+
+/// The descent through one outermost expression, which must leave `floor` tokens. It looks a few
+/// tokens past that bound at most, so its depth is bounded too.
+#[derive(Clone, Copy)]
+struct Descent {
+    alloc: Global,
+    language: Language,
+    floor: usize,
+}
+
+impl Descent {
+    /// `rel ["->" expr ":" expr]`.
+    #[cycle(descent)]
+    fn expr<'a>(self, here: Cursor<'a>) -> Result<(Box<Expr>, Cursor<'a>), Fault>
+        ensures shorter { IfOk result (λ read. length read.1 < length here.entry) }
+    {
+        let (test, behind) = self.rel(here)?;
+        let next = behind.next();
+        match next.symbol {
+            Symbol::Arrow => self.choice(test, next.at, next.rest),
+            _ => Ok((test, behind)),
+        }
+    }
+
+    /// What stands behind the `->` of a choice.
+    #[cycle(descent)]
+    fn choice<'a>(
+        self,
+        test: Box<Expr>,
+        at: u32,
+        here: Cursor<'a>,
+    ) -> Result<(Box<Expr>, Cursor<'a>), Fault>
+        ensures shorter { IfOk result (λ read. length read.1 < length here.entry) }
+    {
+        let (yes, behind) = self.expr(here)?;
+        let behind = behind.behind_colon()?;
+        let (no, behind) = self.expr(behind)?;
+        Ok((choice_of(self.alloc, test, yes, no, at)?, behind))
+    }
+
+    /// `sum [relation sum]`.
+    #[cycle(descent)]
+    fn rel<'a>(self, here: Cursor<'a>) -> Result<(Box<Expr>, Cursor<'a>), Fault>
+        ensures shorter { IfOk result (λ read. length read.1 < length here.entry) }
+    {
+        let (left, behind) = self.sum(here)?;
+        let next = behind.next();
+        match relation(next.symbol) {
+            Some(op) => {
+                let (right, behind) = self.sum(next.rest)?;
+                Ok((binary(self.alloc, op, left, right, next.at)?, behind))
+            }
+            None => Ok((left, behind)),
+        }
+    }
+
+    /// `term {adding term}`.
+    #[cycle(descent)]
+    fn sum<'a>(self, here: Cursor<'a>) -> Result<(Box<Expr>, Cursor<'a>), Fault>
+        ensures shorter { IfOk result (λ read. length read.1 < length here.entry) }
+    {
+        let (first, behind) = self.term(here)?;
+        self.terms(first, behind)
+    }
+
+    /// `{adding term}` behind what is on the left.
+    #[cycle(descent)]
+    fn terms<'a>(self, left: Box<Expr>, here: Cursor<'a>) -> Result<(Box<Expr>, Cursor<'a>), Fault>
+        ensures shorter { IfOk result (λ read. length read.1 ≤ length here.entry) }
+    {
+        let next = here.next();
+        match adding(next.symbol) {
+            Some(op) => {
+                let (right, behind) = self.term(next.rest)?;
+                let sum = binary(self.alloc, op, left, right, next.at)?;
+                self.terms(sum, behind)
+            }
+            None => Ok((left, here)),
+        }
+    }
+
+    /// `factor {"&" factor}`.
+    #[cycle(descent)]
+    fn term<'a>(self, here: Cursor<'a>) -> Result<(Box<Expr>, Cursor<'a>), Fault>
+        ensures shorter { IfOk result (λ read. length read.1 < length here.entry) }
+    {
+        let (first, behind) = self.factor(here)?;
+        self.factors(first, behind)
+    }
+
+    /// `{"&" factor}` behind what is on the left.
+    #[cycle(descent)]
+    fn factors<'a>(
+        self,
+        left: Box<Expr>,
+        here: Cursor<'a>,
+    ) -> Result<(Box<Expr>, Cursor<'a>), Fault>
+        ensures shorter { IfOk result (λ read. length read.1 ≤ length here.entry) }
+    {
+        let next = here.next();
+        match next.symbol {
+            Symbol::And => {
+                let (right, behind) = self.factor(next.rest)?;
+                let product = binary(self.alloc, Op::And, left, right, next.at)?;
+                self.factors(product, behind)
+            }
+            _ => Ok((left, here)),
+        }
+    }
+
+    /// A factor. Each way around the cycle of calls comes by here, so the bound is checked here.
+    #[cycle(descent)]
+    fn factor<'a>(self, here: Cursor<'a>) -> Result<(Box<Expr>, Cursor<'a>), Fault>
+        ensures shorter { IfOk result (λ read. length read.1 < length here.entry) }
+    {
+        if here.left() < self.floor {
+            return Err(Fault::Long { left: self.floor });
+        }
+        let next = here.next();
+        match next.symbol {
+            Symbol::Number { value, width } => Ok((
+                number(self.alloc, value, width, next.at)?,
+                next.rest,
+            )),
+            Symbol::Not => self.negation(next.at, next.rest),
+            Symbol::OpenBrace => self.concat(next.at, next.rest),
+            Symbol::OpenParen => self.nested(next.rest),
+            Symbol::Name | Symbol::At => self.reference(here),
+            Symbol::Shl => self.shift(Op::Shl, next.at, next.rest),
+            Symbol::Shr => self.shift(Op::Shr, next.at, next.rest),
+            Symbol::Asr => self.shift(Op::Asr, next.at, next.rest),
+            Symbol::Ror => self.shift(Op::Ror, next.at, next.rest),
+            _ => Err(here.fault()),
+        }
+    }
+
+    /// What stands behind a `~`.
+    #[cycle(descent)]
+    fn negation<'a>(self, at: u32, here: Cursor<'a>) -> Result<(Box<Expr>, Cursor<'a>), Fault>
+        ensures shorter { IfOk result (λ read. length read.1 < length here.entry) }
+    {
+        let (arg, behind) = self.factor(here)?;
+        Ok((not_of(self.alloc, arg, at)?, behind))
+    }
+
+    /// `expr ")"`, behind a `(`.
+    #[cycle(descent)]
+    fn nested<'a>(self, here: Cursor<'a>) -> Result<(Box<Expr>, Cursor<'a>), Fault>
+        ensures shorter { IfOk result (λ read. length read.1 < length here.entry) }
+    {
+        let (inner, behind) = self.expr(here)?;
+        Ok((inner, behind.behind_close_paren()?))
+    }
+
+    /// `"(" expr "," expr ")"`, behind the word of a shift.
+    #[cycle(descent)]
+    fn shift<'a>(self, op: Op, at: u32, here: Cursor<'a>) -> Result<(Box<Expr>, Cursor<'a>), Fault>
+        ensures shorter { IfOk result (λ read. length read.1 < length here.entry) }
+    {
+        let behind = here.behind_open_paren()?;
+        let (value, behind) = self.expr(behind)?;
+        let behind = behind.behind_comma()?;
+        let (by, behind) = self.expr(behind)?;
+        let behind = behind.behind_close_paren()?;
+        Ok((binary(self.alloc, op, value, by, at)?, behind))
+    }
+
+    /// `part {"," part} "}"`, behind a `{`.
+    #[cycle(descent)]
+    fn concat<'a>(self, at: u32, here: Cursor<'a>) -> Result<(Box<Expr>, Cursor<'a>), Fault>
+        ensures shorter { IfOk result (λ read. length read.1 < length here.entry) }
+    {
+        let (first, behind) = self.part(here)?;
+        let (parts, behind) = self.parts(only(self.alloc, first)?, behind)?;
+        let behind = behind.behind_close_brace()?;
+        Ok((concat_of(self.alloc, parts, at)?, behind))
+    }
+
+    /// `{"," part}` behind the parts that are read.
+    #[cycle(descent)]
+    fn parts<'a>(self, parts: Vec<Part>, here: Cursor<'a>) -> Result<(Vec<Part>, Cursor<'a>), Fault>
+        ensures shorter { IfOk result (λ read. length read.1 ≤ length here.entry) }
+    {
+        let next = here.next();
+        match next.symbol {
+            Symbol::Comma => {
+                let (part, behind) = self.part(next.rest)?;
+                self.parts(with_part(parts, part)?, behind)
+            }
+            _ => Ok((parts, here)),
+        }
+    }
+
+    /// `expr ["!" count]`.
+    #[cycle(descent)]
+    fn part<'a>(self, here: Cursor<'a>) -> Result<(Part, Cursor<'a>), Fault>
+        ensures shorter { IfOk result (λ read. length read.1 < length here.entry) }
+    {
+        let at = here.at();
+        let (value, behind) = self.expr(here)?;
+        let (times, behind) = times(self.alloc, self.language, at, behind)?;
+        Ok((part_of(value, times), behind))
+    }
+
+    /// `ref ["." count | "[" count ":" count "]" | "[" expr "]"]`.
+    #[cycle(descent)]
+    fn reference<'a>(self, here: Cursor<'a>) -> Result<(Box<Expr>, Cursor<'a>), Fault>
+        ensures shorter { IfOk result (λ read. length read.1 < length here.entry) }
+    {
+        let (of, behind) = reference(self.alloc, self.language, here)?;
+        let next = behind.next();
+        match next.symbol {
+            Symbol::Dot => bit(self.alloc, self.language, of, next.at, next.rest),
+            Symbol::OpenBracket => {
+                if begins_slice(self.language, &next.rest) {
+                    slice(self.alloc, self.language, of, next.at, next.rest)
+                } else {
+                    self.index(of, next.at, next.rest)
+                }
+            }
+            _ => Ok((whole(self.alloc, of)?, behind)),
+        }
+    }
+
+    /// `expr "]"`, behind the `[` of an index.
+    #[cycle(descent)]
+    fn index<'a>(self, of: Ref, at: u32, here: Cursor<'a>) -> Result<(Box<Expr>, Cursor<'a>), Fault>
+        ensures shorter { IfOk result (λ read. length read.1 < length here.entry) }
+    {
+        let (place, behind) = self.expr(here)?;
+        let behind = behind.behind_close_bracket()?;
+        Ok((index_of(self.alloc, of, place, at)?, behind))
+    }
+}
+
+/// The operator of a relation.
+fn relation(symbol: Symbol) -> Option<Op> {
+    match symbol {
+        Symbol::Equal => Some(Op::Eq),
+        Symbol::Unequal => Some(Op::Ne),
+        Symbol::Less => Some(Op::Lt),
+        Symbol::AtMost => Some(Op::Le),
+        Symbol::Greater => Some(Op::Gt),
+        Symbol::AtLeast => Some(Op::Ge),
+        _ => None,
+    }
+}
+
+/// The operator of a sum.
+fn adding(symbol: Symbol) -> Option<Op> {
+    match symbol {
+        Symbol::Plus => Some(Op::Add),
+        Symbol::Minus => Some(Op::Sub),
+        Symbol::Or => Some(Op::Or),
+        Symbol::Xor => Some(Op::Xor),
+        _ => None,
+    }
+}

@@ -1,0 +1,126 @@
+ghost use Rattle.std.specs.Prelude.{ℕ, ◌<◌, ◌≤◌, ◌^◌, length, IfOk};
+ghost use Rattle.lola_parse.specs.Symbols.{AreIn};
+ghost use Rattle.lola_scan.specs.Tokens.{Spells};
+
+use crate::cursor::Cursor;
+use crate::expression::outermost;
+use crate::fault::Fault;
+use crate::module::source;
+use crate::symbol::Language;
+use lola_scan::Token;
+use lola_tree::{Expr, Source};
+use std::alloc::Global;
+use thiserror::Error;
+
+/// Why tokens have no tree. `at` is an offset in bytes.
+#[derive(Clone, Copy, Debug, PartialEq, Eq, Error)]
+pub enum ParseError {
+    /// No text of the grammar begins with the tokens up to this one; or the text, whose length this
+    /// is, ends too early.
+    #[error("syntax at {at}")]
+    Syntax { at: u32 },
+    /// The 513th token of an outermost expression.
+    #[error("expression too long at {at}")]
+    Long { at: u32 },
+    /// Want of memory.
+    #[error("out of memory")]
+    Memory,
+}
+
+/// The tree of a design's text, which all its tokens spell. They are those that `scan` gave for the
+/// text. Syntax stands at the first token such that no grammatical text begins with the tokens up to
+/// it, or at the text's length where it ends too early; Long at the 513th token of one outermost
+/// expression, where that would go on with it. Time and memory are linear in the tokens.
+pub fn parse(alloc: Global, text: &[u8], tokens: &[Token]) -> Result<Source, ParseError>
+    requires short { length text.now < 2 ^ 32 }
+    requires lie_within { AreIn text.now tokens.now }
+{
+    match source(alloc, Cursor::new(Language::Design, text, tokens)) {
+        Ok(tree) => Ok(tree),
+        Err(fault) => Err(placed(text, tokens, fault)),
+    }
+}
+
+/// The expression that stands from token number `from` on, in a design's text, and the number of the
+/// token behind it. Of the tokens from there on it takes the longest run with which some expression
+/// begins; where that run is no expression, it is Syntax at the token behind the run, or at the
+/// text's length where the text ends there; Long is as in `parse`.
+pub fn parse_expr(
+    alloc: Global,
+    text: &[u8],
+    tokens: &[Token],
+    from: usize,
+) -> Result<(Expr, usize), ParseError>
+    requires short { length text.now < 2 ^ 32 }
+    requires lie_within { AreIn text.now tokens.now }
+    requires from_in { from ≤ length tokens.now }
+{
+    expr_from(alloc, Language::Design, text, tokens, from)
+}
+
+/// As `parse_expr`, for an expression of a table: its counts are numbers, `@` begins the path of a
+/// name of the design, and the words that tables reserve are no names.
+pub fn parse_table_expr(
+    alloc: Global,
+    text: &[u8],
+    tokens: &[Token],
+    from: usize,
+) -> Result<(Expr, usize), ParseError>
+    requires short { length text.now < 2 ^ 32 }
+    requires lie_within { AreIn text.now tokens.now }
+    requires from_in { from ≤ length tokens.now }
+{
+    expr_from(alloc, Language::Table, text, tokens, from)
+}
+
+/// The expression of a language that stands from a token on, and the number of the token behind it.
+fn expr_from(
+    alloc: Global,
+    language: Language,
+    text: &[u8],
+    tokens: &[Token],
+    from: usize,
+) -> Result<(Expr, usize), ParseError>
+    requires short { length text.now < 2 ^ 32 }
+    requires lie_within { AreIn text.now tokens.now }
+    requires from_in { from ≤ length tokens.now }
+{
+    let (_, rest) = tokens.split_at(from);
+    match outermost(alloc, language, Cursor::new(language, text, rest)) {
+        Ok((tree, behind)) => Ok((tree, tokens.len() - behind.left())),
+        Err(fault) => Err(placed(text, tokens, fault)),
+    }
+}
+
+/// The answer for a fault, with its place in the text.
+fn placed(text: &[u8], tokens: &[Token], fault: Fault) -> ParseError
+    requires { length text.now < 2 ^ 32 }
+{
+    match fault {
+        Fault::Syntax { left } => ParseError::Syntax {
+            at: place(text, tokens, left),
+        },
+        Fault::Long { left } => ParseError::Long {
+            at: place(text, tokens, left),
+        },
+        Fault::Memory => ParseError::Memory,
+    }
+}
+
+/// The place of the token from which on so many are left, or the text's length.
+fn place(text: &[u8], tokens: &[Token], left: usize) -> u32
+    requires { length text.now < 2 ^ 32 }
+{
+    match tokens.get(tokens.len().saturating_sub(left)) {
+        Some(token) => token.from,
+        None => text.len() as u32,
+    }
+}
+
+/// The tokens that `scan` gives for a text lie within it, in ASCII.
+pub fn tokens_lie_within(text: &[u8], tokens: &[Token])
+    ensures { Spells 0 text.now tokens.now → AreIn text.now tokens.now }
+{
+    let _ = text.len();
+    let _ = tokens.len();
+}

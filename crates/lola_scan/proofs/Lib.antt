@@ -1,0 +1,10 @@
+pub mod Runs
+pub mod FirstByte
+pub mod Fronts
+pub mod Marks
+pub mod Comments
+pub mod Numbers
+pub mod Reading
+pub mod Digits
+pub mod RunValues
+pub mod Steps
