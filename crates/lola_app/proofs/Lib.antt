@@ -1,4 +1,6 @@
 pub mod Appends
 pub mod Bits
+pub mod Lists
+pub mod Orders
 pub mod Theorem
 pub mod ThreeItems

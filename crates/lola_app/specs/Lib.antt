@@ -1,4 +1,6 @@
+pub mod Deciding
 pub mod Headline
+pub mod Listing
 pub mod Logic
 pub mod Obligations
 pub mod Printing
@@ -7,3 +9,5 @@ pub mod Serve
 pub mod Small
 pub mod Status
 pub mod Table
+pub mod Trial
+pub mod Valuations

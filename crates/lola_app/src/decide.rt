@@ -1,6 +1,12 @@
-ghost use Rattle.std.specs.Prelude.{◌≤◌};
+ghost use Rattle.std.specs.Prelude.{◌≡◌, ◌≤◌, ◌<◌, ◌^◌, ◌++◌, false, map, IfOk, OnOk, MatchOption, slice_get, slice_index_or};
+ghost use Rattle.lola_app.specs.declared.logic.Logic.{Logic};
+ghost use Rattle.lola_app.specs.Trial.{with_reset, next_leaves, next_leaf, place_fits, start_passes, state_passes, reset_passes, end_passes, premises, passes, free_count};
+ghost use Rattle.lola_app.specs.Valuations.{bits_of, Always, IsLeast};
+ghost use Rattle.lola_app.specs.Deciding.{IsDecidedBy};
+ghost use Rattle.lola_app.specs.Logic.{logic_value};
+ghost use Rattle.std.specs.Option.{option_copied};
 
-use crate::claim::Claim;
+use crate::claim::{Claim, Start, State};
 use crate::logic::{Logic, eval};
 use crate::obligation::{Goal, Obligation, Which};
 use crate::table::Place;
@@ -15,7 +21,9 @@ pub enum Decided {
 }
 
 /// Tries all valuations of each obligation in turn.
-pub fn decide(alloc: Global, claim: &Claim, list: &[Obligation]) -> Result<Decided, AllocError> {
+pub fn decide(alloc: Global, claim: &Claim, list: &[Obligation]) -> Result<Decided, AllocError>
+    ensures { IfOk result (λ decided. IsDecidedBy claim.now list.now decided) }
+{
     for (number, obligation) in list.iter().enumerate() {
         match first_failing(alloc, claim, obligation.which)? {
             Some(bits) => return Ok(Decided::Fails { number, bits }),
@@ -30,8 +38,10 @@ fn first_failing(
     alloc: Global,
     claim: &Claim,
     which: Which,
-) -> Result<Option<Vec<bool>>, AllocError> {
-    let count = free_count(claim, which).min(16) as u32;
+) -> Result<Option<Vec<bool>>, AllocError>
+    ensures { IfOk result (λ found. MatchOption found (Always (passes claim.now which) (free_count claim.now which)) (λ bits. IsLeast (passes claim.now which) (free_count claim.now which) bits.items)) }
+{
+    let count = free_bits(claim, which);
     for number in 0..1u32 << count {
         let bits = bits_of(alloc, count, number)?;
         if !holds_at(alloc, claim, which, bits.as_slice())? {
@@ -41,8 +51,11 @@ fn first_failing(
     Ok(None)
 }
 
-/// How many bits an obligation leaves free: the word's in `cover`, and else all leaves but RESET.
-fn free_count(claim: &Claim, which: Which) -> usize {
+/// How many bits an obligation leaves free.
+fn free_bits(claim: &Claim, which: Which) -> u32
+    ensures few { result ≤ 16 }
+    ensures count { result ≡ free_count claim.now which }
+{
     match which {
         Which::Cover => 1,
         _ => {
@@ -51,39 +64,44 @@ fn free_count(claim: &Claim, which: Which) -> usize {
                 .inputs
                 .len()
                 .saturating_add(claim.design.registers.len());
-            leaves.saturating_sub(1)
+            leaves.saturating_sub(1).min(16) as u32
         }
     }
 }
 
 /// The bits of a number, the highest first.
 fn bits_of(alloc: Global, count: u32, number: u32) -> Result<Vec<bool>, AllocError>
-    requires { count ≤ 16 }
+    requires few { count ≤ 16 }
+    requires below { number < 2 ^ count }
+    ensures { IfOk result (λ bits. bits.items ≡ bits_of count number) }
 {
     let mut rest = number;
     let mut bits = Vec::new(alloc);
     for left in (0..count).rev() {
         let top = 1u32 << left;
-        let bit = rest >= top;
-        if bit {
+        if rest < top {
+            bits.push(false)?;
+        } else {
+            bits.push(true)?;
             rest -= top;
         }
-        bits.push(bit)?;
     }
     Ok(bits)
 }
 
 /// Whether an obligation holds at a valuation: a premise fails, or the goal holds.
-fn holds_at(alloc: Global, claim: &Claim, which: Which, bits: &[bool]) -> Result<bool, AllocError> {
+fn holds_at(alloc: Global, claim: &Claim, which: Which, bits: &[bool]) -> Result<bool, AllocError>
+    ensures { IfOk result (λ holds. holds ≡ passes claim.now which bits.now) }
+{
     match which {
-        Which::Cover => Ok(fits(claim.pattern, bits.first().copied().unwrap_or(false))),
+        Which::Cover => Ok(fits(claim.pattern, first_bit(bits))),
         Which::Reset { goal } => {
-            let leaves = with_reset(alloc, claim.reset, claim.active, bits)?;
+            let leaves = leaves_with(alloc, claim.reset, claim.active, bits)?;
             reset_holds(alloc, claim, goal, leaves.as_slice())
         }
         Which::End { goal } => {
-            let leaves = with_reset(alloc, claim.reset, !claim.active, bits)?;
-            if !premises(claim, leaves.as_slice()) {
+            let leaves = leaves_with(alloc, claim.reset, !claim.active, bits)?;
+            if !premises_hold(claim, leaves.as_slice()) {
                 return Ok(true);
             }
             end_holds(alloc, claim, goal, leaves.as_slice())
@@ -91,8 +109,16 @@ fn holds_at(alloc: Global, claim: &Claim, which: Which, bits: &[bool]) -> Result
     }
 }
 
+fn first_bit(bits: &[bool]) -> bool
+    ensures { result ≡ slice_index_or bits.now 0 false }
+{
+    if bits.is_empty() { false } else { bits[0] }
+}
+
 /// Whether a pattern of one place fits a word.
-fn fits(pattern: Place, word: bool) -> bool {
+fn fits(pattern: Place, word: bool) -> bool
+    ensures { result ≡ place_fits pattern word }
+{
     match pattern {
         Place::Any => true,
         Place::Zero => !word,
@@ -101,27 +127,26 @@ fn fits(pattern: Place, word: bool) -> bool {
 }
 
 /// The leaves' values: the free bits, with RESET's value in its place.
-fn with_reset(
+fn leaves_with(
     alloc: Global,
     reset: usize,
     value: bool,
     bits: &[bool],
-) -> Result<Vec<bool>, AllocError> {
+) -> Result<Vec<bool>, AllocError>
+    ensures { IfOk result (λ leaves. leaves.items ≡ with_reset reset value bits.now) }
+{
     let mut leaves = Vec::new(alloc);
-    for (number, bit) in bits.iter().enumerate() {
-        if number == reset {
-            leaves.push(value)?;
-        }
-        leaves.push(*bit)?;
-    }
-    if reset >= bits.len() {
-        leaves.push(value)?;
-    }
+    let (front, back) = bits.split_at(reset.min(bits.len()));
+    leaves.extend_from_slice(front)?;
+    leaves.push(value)?;
+    leaves.extend_from_slice(back)?;
     Ok(leaves)
 }
 
 /// Whether the state shows the invariant and a boundary, and the word, which is 0, is in the class.
-fn premises(claim: &Claim, leaves: &[bool]) -> bool {
+fn premises_hold(claim: &Claim, leaves: &[bool]) -> bool
+    ensures { result ≡ premises claim.now leaves.now }
+{
     eval(&claim.invariant, leaves) && eval(&claim.boundary, leaves) && fits(claim.pattern, false)
 }
 
@@ -131,31 +156,42 @@ fn reset_holds(
     claim: &Claim,
     goal: Goal,
     leaves: &[bool],
-) -> Result<bool, AllocError> {
+) -> Result<bool, AllocError>
+    ensures { IfOk result (λ holds. holds ≡ reset_passes claim.now goal leaves.now) }
+{
     match goal {
         Goal::Invariant => holds_next(alloc, claim, &claim.invariant, leaves),
         Goal::Boundary => holds_next(alloc, claim, &claim.boundary, leaves),
-        Goal::State { number } => match claim.starts.get(number) {
-            Some(start) => Ok(next_leaf(claim, start.leaf, leaves) == eval(&start.value, leaves)),
-            None => Ok(true),
-        },
+        Goal::State { number } => Ok(start_holds(claim, claim.starts.get(number), leaves)),
+    }
+}
+
+fn start_holds(claim: &Claim, start: Option<&Start>, leaves: &[bool]) -> bool
+    ensures { result ≡ start_passes claim.now (option_copied start.entry) leaves.now }
+{
+    match start {
+        Some(start) => after(claim, start.leaf, leaves) == eval(&start.value, leaves),
+        None => true,
     }
 }
 
 /// Whether a goal holds at the end of the instruction.
-fn end_holds(
-    alloc: Global,
-    claim: &Claim,
-    goal: Goal,
-    leaves: &[bool],
-) -> Result<bool, AllocError> {
+fn end_holds(alloc: Global, claim: &Claim, goal: Goal, leaves: &[bool]) -> Result<bool, AllocError>
+    ensures { IfOk result (λ holds. holds ≡ end_passes claim.now goal leaves.now) }
+{
     match goal {
         Goal::Invariant => holds_next(alloc, claim, &claim.invariant, leaves),
         Goal::Boundary => holds_next(alloc, claim, &claim.boundary, leaves),
-        Goal::State { number } => match claim.states.get(number) {
-            Some(state) => Ok(next_leaf(claim, state.leaf, leaves) == eval(&state.set, leaves)),
-            None => Ok(true),
-        },
+        Goal::State { number } => Ok(state_holds(claim, claim.states.get(number), leaves)),
+    }
+}
+
+fn state_holds(claim: &Claim, state: Option<&State>, leaves: &[bool]) -> bool
+    ensures { result ≡ state_passes claim.now (option_copied state.entry) leaves.now }
+{
+    match state {
+        Some(state) => after(claim, state.leaf, leaves) == eval(&state.set, leaves),
+        None => true,
     }
 }
 
@@ -165,25 +201,37 @@ fn holds_next(
     claim: &Claim,
     logic: &Logic,
     leaves: &[bool],
-) -> Result<bool, AllocError> {
-    let next = next_leaves(alloc, claim, leaves)?;
+) -> Result<bool, AllocError>
+    ensures { IfOk result (λ holds. holds ≡ logic_value logic.now (next_leaves claim.now leaves.now)) }
+{
+    let next = leaves_after(alloc, claim, leaves)?;
     Ok(eval(logic, next.as_slice()))
 }
 
 /// The leaves after the clock edge: the inputs as they were, and the registers' next values.
-fn next_leaves(alloc: Global, claim: &Claim, leaves: &[bool]) -> Result<Vec<bool>, AllocError> {
+fn leaves_after(alloc: Global, claim: &Claim, leaves: &[bool]) -> Result<Vec<bool>, AllocError>
+    ensures { IfOk result (λ next. next.items ≡ next_leaves claim.now leaves.now) }
+{
     let mut next = Vec::new(alloc);
-    for (number, _) in claim.design.inputs.iter().enumerate() {
-        next.push(leaves.get(number).copied().unwrap_or(false))?;
-    }
-    for logic in &claim.design.nexts {
-        next.push(eval(logic, leaves))?;
-    }
+    let (inputs, _) = leaves.split_at(claim.design.inputs.len().min(leaves.len()));
+    next.extend_from_slice(inputs)?;
+    push_values(&mut next, claim.design.nexts.as_slice(), leaves)?;
     Ok(next)
 }
 
+fn push_values(next: &mut Vec<bool>, logics: &[Logic], leaves: &[bool]) -> Result<(), AllocError>
+    ensures { OnOk result (next.new.items ≡ next.old.items ++ map (λ (l : Logic). logic_value l leaves.now) logics.now) }
+{
+    for logic in logics {
+        next.push(eval(logic, leaves))?;
+    }
+    Ok(())
+}
+
 /// The value of a register's leaf after the clock edge.
-fn next_leaf(claim: &Claim, leaf: usize, leaves: &[bool]) -> bool {
+fn after(claim: &Claim, leaf: usize, leaves: &[bool]) -> bool
+    ensures { result ≡ next_leaf claim.now leaf leaves.now }
+{
     match claim
         .design
         .nexts

@@ -1,4 +1,7 @@
-use crate::claim::Claim;
+ghost use Rattle.std.specs.Prelude.{◌≡◌, [], ◌∷◌, ◌++◌, map, string_bytes, IfOk, OnOk};
+ghost use Rattle.lola_app.specs.Listing.{Named, named_of, start_obligations, state_obligations, reset_obligations, class_obligations, listed};
+
+use crate::claim::{Claim, Start, State};
 use std::alloc::{AllocError, Global};
 
 /// What an obligation says of the next state: that the invariant or the boundary holds there, or that
@@ -28,71 +31,103 @@ pub struct Obligation {
 
 /// All obligations of a claim, in their order: `cover`, those of the reset cycle, and those of the
 /// instruction.
-pub fn obligations(alloc: Global, claim: &Claim) -> Result<Vec<Obligation>, AllocError> {
+pub fn obligations(alloc: Global, claim: &Claim) -> Result<Vec<Obligation>, AllocError>
+    ensures { IfOk result (λ list. map named_of list.items ≡ listed claim.now) }
+{
     let mut list = Vec::new(alloc);
     add(&mut list, String::from_str(alloc, "cover")?, Which::Cover)?;
-    add_resets(alloc, &mut list, claim)?;
-    add_ends(alloc, &mut list, claim)?;
+    add_resets(alloc, &mut list, claim.starts.as_slice())?;
+    add_ends(
+        alloc,
+        &mut list,
+        claim.class.as_str(),
+        claim.states.as_slice(),
+    )?;
     Ok(list)
 }
 
-fn add(list: &mut Vec<Obligation>, name: String, which: Which) -> Result<(), AllocError> {
+fn add(list: &mut Vec<Obligation>, name: String, which: Which) -> Result<(), AllocError>
+    ensures { OnOk result (map named_of list.new.items ≡ map named_of list.old.items ++ (string_bytes name, which) ∷ []) }
+{
     list.push(Obligation { name, which })?;
     Ok(())
 }
 
-fn add_resets(alloc: Global, list: &mut Vec<Obligation>, claim: &Claim) -> Result<(), AllocError> {
+/// Those of the reset cycle.
+fn add_resets(alloc: Global, list: &mut Vec<Obligation>, starts: &[Start]) -> Result<(), AllocError>
+    ensures { OnOk result (map named_of list.new.items ≡ map named_of list.old.items ++ reset_obligations starts.now) }
+{
+    let goal = Goal::Invariant;
     add(
         list,
         String::from_str(alloc, "reset/INVARIANT")?,
-        Which::Reset {
-            goal: Goal::Invariant,
-        },
+        Which::Reset { goal },
     )?;
+    let goal = Goal::Boundary;
     add(
         list,
         String::from_str(alloc, "reset/BOUNDARY")?,
-        Which::Reset {
-            goal: Goal::Boundary,
-        },
+        Which::Reset { goal },
     )?;
-    for (number, start) in claim.starts.iter().enumerate() {
+    add_starts(alloc, list, starts)?;
+    Ok(())
+}
+
+fn add_starts(alloc: Global, list: &mut Vec<Obligation>, starts: &[Start]) -> Result<(), AllocError>
+    ensures { OnOk result (map named_of list.new.items ≡ map named_of list.old.items ++ start_obligations 0 starts.now) }
+{
+    for (number, start) in starts.iter().enumerate() {
         let state = start.name.as_str();
+        let goal = Goal::State { number };
         add(
             list,
             format!(in alloc; "reset/{state}")?,
-            Which::Reset {
-                goal: Goal::State { number },
-            },
+            Which::Reset { goal },
         )?;
     }
     Ok(())
 }
 
-fn add_ends(alloc: Global, list: &mut Vec<Obligation>, claim: &Claim) -> Result<(), AllocError> {
-    let class = claim.class.as_str();
+/// Those of the class.
+fn add_ends(
+    alloc: Global,
+    list: &mut Vec<Obligation>,
+    class: &str,
+    states: &[State],
+) -> Result<(), AllocError>
+    ensures { OnOk result (map named_of list.new.items ≡ map named_of list.old.items ++ class_obligations class.now states.now) }
+{
+    let goal = Goal::Invariant;
     add(
         list,
         format!(in alloc; "{class}/0/end/INVARIANT")?,
-        Which::End {
-            goal: Goal::Invariant,
-        },
+        Which::End { goal },
     )?;
+    let goal = Goal::Boundary;
     add(
         list,
         format!(in alloc; "{class}/0/end/BOUNDARY")?,
-        Which::End {
-            goal: Goal::Boundary,
-        },
+        Which::End { goal },
     )?;
-    for (number, state) in claim.states.iter().enumerate() {
+    add_states(alloc, list, class, states)?;
+    Ok(())
+}
+
+fn add_states(
+    alloc: Global,
+    list: &mut Vec<Obligation>,
+    class: &str,
+    states: &[State],
+) -> Result<(), AllocError>
+    ensures { OnOk result (map named_of list.new.items ≡ map named_of list.old.items ++ state_obligations class.now 0 states.now) }
+{
+    for (number, state) in states.iter().enumerate() {
         let state = state.name.as_str();
+        let goal = Goal::State { number };
         add(
             list,
             format!(in alloc; "{class}/0/end/{state}")?,
-            Which::End {
-                goal: Goal::State { number },
-            },
+            Which::End { goal },
         )?;
     }
     Ok(())

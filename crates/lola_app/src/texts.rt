@@ -64,7 +64,7 @@ fn text_tokens(alloc: Global, text: &[u8]) -> Result<Vec<Token>, ReadError>
 {
     match scan(alloc, text) {
         Ok(tokens) => {
-            tokens_lie_within(text, tokens.as_slice());
+            tokens_lie_within();
             Ok(tokens)
         }
         Err(ScanError::Memory) => Err(ReadError::Memory),

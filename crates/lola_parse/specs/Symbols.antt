@@ -138,8 +138,8 @@ AreIn text [] = Unit {0}
 AreIn text (token ∷ more) = IsIn text token × AreIn text more
 
 -- the item at the front of a list, field by field, and the rest; of an empty list the symbol is
--- Nothing, and the rest is empty
+-- Nothing, the place 0, and the rest is empty
 abbrev pub IsNext : List Item → Symbol → Bool → List ℕ → ℕ → List Item → Type 0
-IsNext [] symbol is_word spelled at rest = (symbol ≡ sym.Nothing) × (is_word ≡ false) × (rest ≡ [])
+IsNext [] symbol is_word spelled at rest = (symbol ≡ sym.Nothing) × (is_word ≡ false) × (at ≡ 0) × (rest ≡ [])
 IsNext (item ∷ more) symbol is_word spelled at rest =
     (item ≡ record { symbol = symbol; is_word = is_word; spelled = spelled; at = at }) × (more ≡ rest)

@@ -1,6 +1,7 @@
 ghost use Rattle.std.specs.Prelude.{◌≡◌, ◌≢◌, ℕ, List, length, ◌<◌, IfOk};
 ghost use Rattle.std.specs.Str.{IsUtf8, IsAscii};
 ghost use Rattle.lola_parse.specs.Symbols.{text_of, IsIn, is_word_kind};
+ghost use Rattle.lola_parse.specs.Grammar.{Passes, place_of};
 
 use crate::fault::Fault;
 use crate::symbol::{Language, Symbol, symbol_of};
@@ -67,7 +68,9 @@ impl<'a> Cursor<'a> {
     }
 
     /// The place of the token at the front, or 0 where there is none.
-    pub fn at(&self) -> u32 {
+    pub fn at(&self) -> u32
+        ensures { result ≡ place_of self.now }
+    {
         self.next().at
     }
 
@@ -110,6 +113,7 @@ impl<'a> Cursor<'a> {
     /// Behind `MODULE`.
     pub fn behind_module(&self) -> Result<Cursor<'a>, Fault>
         ensures shorter { IfOk result (λ rest. length rest < length self.now) }
+        ensures ok { IfOk result (λ rest. Passes Symbol.Module self.now rest) }
     {
         let next = self.next();
         match next.symbol {
@@ -121,6 +125,7 @@ impl<'a> Cursor<'a> {
     /// Behind `END`.
     pub fn behind_end(&self) -> Result<Cursor<'a>, Fault>
         ensures shorter { IfOk result (λ rest. length rest < length self.now) }
+        ensures ok { IfOk result (λ rest. Passes Symbol.End self.now rest) }
     {
         let next = self.next();
         match next.symbol {
@@ -132,6 +137,7 @@ impl<'a> Cursor<'a> {
     /// Behind `BIT`.
     pub fn behind_bit(&self) -> Result<Cursor<'a>, Fault>
         ensures shorter { IfOk result (λ rest. length rest < length self.now) }
+        ensures ok { IfOk result (λ rest. Passes Symbol.Bit self.now rest) }
     {
         let next = self.next();
         match next.symbol {
@@ -143,6 +149,7 @@ impl<'a> Cursor<'a> {
     /// Behind `(`.
     pub fn behind_open_paren(&self) -> Result<Cursor<'a>, Fault>
         ensures shorter { IfOk result (λ rest. length rest < length self.now) }
+        ensures ok { IfOk result (λ rest. Passes Symbol.OpenParen self.now rest) }
     {
         let next = self.next();
         match next.symbol {
@@ -154,6 +161,7 @@ impl<'a> Cursor<'a> {
     /// Behind `)`.
     pub fn behind_close_paren(&self) -> Result<Cursor<'a>, Fault>
         ensures shorter { IfOk result (λ rest. length rest < length self.now) }
+        ensures ok { IfOk result (λ rest. Passes Symbol.CloseParen self.now rest) }
     {
         let next = self.next();
         match next.symbol {
@@ -165,6 +173,7 @@ impl<'a> Cursor<'a> {
     /// Behind `]`.
     pub fn behind_close_bracket(&self) -> Result<Cursor<'a>, Fault>
         ensures shorter { IfOk result (λ rest. length rest < length self.now) }
+        ensures ok { IfOk result (λ rest. Passes Symbol.CloseBracket self.now rest) }
     {
         let next = self.next();
         match next.symbol {
@@ -176,6 +185,7 @@ impl<'a> Cursor<'a> {
     /// Behind `}`.
     pub fn behind_close_brace(&self) -> Result<Cursor<'a>, Fault>
         ensures shorter { IfOk result (λ rest. length rest < length self.now) }
+        ensures ok { IfOk result (λ rest. Passes Symbol.CloseBrace self.now rest) }
     {
         let next = self.next();
         match next.symbol {
@@ -187,6 +197,7 @@ impl<'a> Cursor<'a> {
     /// Behind `,`.
     pub fn behind_comma(&self) -> Result<Cursor<'a>, Fault>
         ensures shorter { IfOk result (λ rest. length rest < length self.now) }
+        ensures ok { IfOk result (λ rest. Passes Symbol.Comma self.now rest) }
     {
         let next = self.next();
         match next.symbol {
@@ -198,6 +209,7 @@ impl<'a> Cursor<'a> {
     /// Behind `;`.
     pub fn behind_semicolon(&self) -> Result<Cursor<'a>, Fault>
         ensures shorter { IfOk result (λ rest. length rest < length self.now) }
+        ensures ok { IfOk result (λ rest. Passes Symbol.Semicolon self.now rest) }
     {
         let next = self.next();
         match next.symbol {
@@ -209,6 +221,7 @@ impl<'a> Cursor<'a> {
     /// Behind `:`.
     pub fn behind_colon(&self) -> Result<Cursor<'a>, Fault>
         ensures shorter { IfOk result (λ rest. length rest < length self.now) }
+        ensures ok { IfOk result (λ rest. Passes Symbol.Colon self.now rest) }
     {
         let next = self.next();
         match next.symbol {
@@ -220,6 +233,7 @@ impl<'a> Cursor<'a> {
     /// Behind `:=`.
     pub fn behind_assign(&self) -> Result<Cursor<'a>, Fault>
         ensures shorter { IfOk result (λ rest. length rest < length self.now) }
+        ensures ok { IfOk result (λ rest. Passes Symbol.Assign self.now rest) }
     {
         let next = self.next();
         match next.symbol {
@@ -231,6 +245,7 @@ impl<'a> Cursor<'a> {
     /// Behind `.`.
     pub fn behind_dot(&self) -> Result<Cursor<'a>, Fault>
         ensures shorter { IfOk result (λ rest. length rest < length self.now) }
+        ensures ok { IfOk result (λ rest. Passes Symbol.Dot self.now rest) }
     {
         let next = self.next();
         match next.symbol {

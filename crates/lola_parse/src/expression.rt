@@ -1,4 +1,9 @@
-ghost use Rattle.std.specs.Prelude.{ℕ, ◌<◌, ◌≤◌, length, IfOk};
+ghost use Rattle.std.specs.Prelude.{ℕ, ◌<◌, ◌≤◌, length, IfOk, ◌≡◌};
+ghost use Rattle.lola_tree.specs.Tree.{tree};
+ghost use Rattle.lola_parse.specs.Parts.{parts_tree};
+ghost use Rattle.lola_parse.specs.Grammar.{Expression, Rel, Sum, Terms, Term, Factors, Factor, OnePart, MoreParts, relation_of, adding_of};
+ghost use Rattle.lola_parse.specs.Design.{Outermost};
+ghost use Rattle.lola_parse.specs.Behind.{ChoiceBehind, NegationBehind, NestedBehind, ShiftBehind, ConcatBehind, IndexBehind};
 
 use crate::cursor::Cursor;
 use crate::fault::Fault;
@@ -22,6 +27,7 @@ pub fn outermost<'a>(
     here: Cursor<'a>,
 ) -> Result<(Expr, Cursor<'a>), Fault>
     ensures shorter { IfOk result (λ read. length read.1 < length here.entry) }
+    ensures ok { IfOk result (λ read. Outermost language here.entry (tree read.0) read.1) }
 {
     let floor = here.left().saturating_sub(LIMIT);
     let descent = Descent {
@@ -70,6 +76,7 @@ impl Descent {
     #[cycle(descent)]
     fn expr<'a>(self, here: Cursor<'a>) -> Result<(Box<Expr>, Cursor<'a>), Fault>
         ensures shorter { IfOk result (λ read. length read.1 < length here.entry) }
+        ensures ok { IfOk result (λ read. Expression self.language here.entry (tree read.0.value) read.1) }
     {
         let (test, behind) = self.rel(here)?;
         let next = behind.next();
@@ -88,6 +95,7 @@ impl Descent {
         here: Cursor<'a>,
     ) -> Result<(Box<Expr>, Cursor<'a>), Fault>
         ensures shorter { IfOk result (λ read. length read.1 < length here.entry) }
+        ensures ok { IfOk result (λ read. ChoiceBehind self.language (tree test.value) at here.entry (tree read.0.value) read.1) }
     {
         let (yes, behind) = self.expr(here)?;
         let behind = behind.behind_colon()?;
@@ -99,6 +107,7 @@ impl Descent {
     #[cycle(descent)]
     fn rel<'a>(self, here: Cursor<'a>) -> Result<(Box<Expr>, Cursor<'a>), Fault>
         ensures shorter { IfOk result (λ read. length read.1 < length here.entry) }
+        ensures ok { IfOk result (λ read. Rel self.language here.entry (tree read.0.value) read.1) }
     {
         let (left, behind) = self.sum(here)?;
         let next = behind.next();
@@ -115,6 +124,7 @@ impl Descent {
     #[cycle(descent)]
     fn sum<'a>(self, here: Cursor<'a>) -> Result<(Box<Expr>, Cursor<'a>), Fault>
         ensures shorter { IfOk result (λ read. length read.1 < length here.entry) }
+        ensures ok { IfOk result (λ read. Sum self.language here.entry (tree read.0.value) read.1) }
     {
         let (first, behind) = self.term(here)?;
         self.terms(first, behind)
@@ -124,6 +134,7 @@ impl Descent {
     #[cycle(descent)]
     fn terms<'a>(self, left: Box<Expr>, here: Cursor<'a>) -> Result<(Box<Expr>, Cursor<'a>), Fault>
         ensures shorter { IfOk result (λ read. length read.1 ≤ length here.entry) }
+        ensures ok { IfOk result (λ read. Terms self.language (tree left.value) here.entry (tree read.0.value) read.1) }
     {
         let next = here.next();
         match adding(next.symbol) {
@@ -140,6 +151,7 @@ impl Descent {
     #[cycle(descent)]
     fn term<'a>(self, here: Cursor<'a>) -> Result<(Box<Expr>, Cursor<'a>), Fault>
         ensures shorter { IfOk result (λ read. length read.1 < length here.entry) }
+        ensures ok { IfOk result (λ read. Term self.language here.entry (tree read.0.value) read.1) }
     {
         let (first, behind) = self.factor(here)?;
         self.factors(first, behind)
@@ -153,6 +165,7 @@ impl Descent {
         here: Cursor<'a>,
     ) -> Result<(Box<Expr>, Cursor<'a>), Fault>
         ensures shorter { IfOk result (λ read. length read.1 ≤ length here.entry) }
+        ensures ok { IfOk result (λ read. Factors self.language (tree left.value) here.entry (tree read.0.value) read.1) }
     {
         let next = here.next();
         match next.symbol {
@@ -169,6 +182,7 @@ impl Descent {
     #[cycle(descent)]
     fn factor<'a>(self, here: Cursor<'a>) -> Result<(Box<Expr>, Cursor<'a>), Fault>
         ensures shorter { IfOk result (λ read. length read.1 < length here.entry) }
+        ensures ok { IfOk result (λ read. Factor self.language here.entry (tree read.0.value) read.1) }
     {
         if here.left() < self.floor {
             return Err(Fault::Long { left: self.floor });
@@ -195,6 +209,7 @@ impl Descent {
     #[cycle(descent)]
     fn negation<'a>(self, at: u32, here: Cursor<'a>) -> Result<(Box<Expr>, Cursor<'a>), Fault>
         ensures shorter { IfOk result (λ read. length read.1 < length here.entry) }
+        ensures ok { IfOk result (λ read. NegationBehind self.language at here.entry (tree read.0.value) read.1) }
     {
         let (arg, behind) = self.factor(here)?;
         Ok((not_of(self.alloc, arg, at)?, behind))
@@ -204,6 +219,7 @@ impl Descent {
     #[cycle(descent)]
     fn nested<'a>(self, here: Cursor<'a>) -> Result<(Box<Expr>, Cursor<'a>), Fault>
         ensures shorter { IfOk result (λ read. length read.1 < length here.entry) }
+        ensures ok { IfOk result (λ read. NestedBehind self.language here.entry (tree read.0.value) read.1) }
     {
         let (inner, behind) = self.expr(here)?;
         Ok((inner, behind.behind_close_paren()?))
@@ -213,6 +229,7 @@ impl Descent {
     #[cycle(descent)]
     fn shift<'a>(self, op: Op, at: u32, here: Cursor<'a>) -> Result<(Box<Expr>, Cursor<'a>), Fault>
         ensures shorter { IfOk result (λ read. length read.1 < length here.entry) }
+        ensures ok { IfOk result (λ read. ShiftBehind self.language op at here.entry (tree read.0.value) read.1) }
     {
         let behind = here.behind_open_paren()?;
         let (value, behind) = self.expr(behind)?;
@@ -226,6 +243,7 @@ impl Descent {
     #[cycle(descent)]
     fn concat<'a>(self, at: u32, here: Cursor<'a>) -> Result<(Box<Expr>, Cursor<'a>), Fault>
         ensures shorter { IfOk result (λ read. length read.1 < length here.entry) }
+        ensures ok { IfOk result (λ read. ConcatBehind self.language at here.entry (tree read.0.value) read.1) }
     {
         let (first, behind) = self.part(here)?;
         let (parts, behind) = self.parts(only(self.alloc, first)?, behind)?;
@@ -237,6 +255,7 @@ impl Descent {
     #[cycle(descent)]
     fn parts<'a>(self, parts: Vec<Part>, here: Cursor<'a>) -> Result<(Vec<Part>, Cursor<'a>), Fault>
         ensures shorter { IfOk result (λ read. length read.1 ≤ length here.entry) }
+        ensures ok { IfOk result (λ read. MoreParts self.language (parts_tree parts.items) here.entry (parts_tree read.0.items) read.1) }
     {
         let next = here.next();
         match next.symbol {
@@ -252,6 +271,7 @@ impl Descent {
     #[cycle(descent)]
     fn part<'a>(self, here: Cursor<'a>) -> Result<(Part, Cursor<'a>), Fault>
         ensures shorter { IfOk result (λ read. length read.1 < length here.entry) }
+        ensures ok { IfOk result (λ read. OnePart self.language here.entry (tree read.0.value) read.0.times read.1) }
     {
         let at = here.at();
         let (value, behind) = self.expr(here)?;
@@ -263,6 +283,7 @@ impl Descent {
     #[cycle(descent)]
     fn reference<'a>(self, here: Cursor<'a>) -> Result<(Box<Expr>, Cursor<'a>), Fault>
         ensures shorter { IfOk result (λ read. length read.1 < length here.entry) }
+        ensures ok { IfOk result (λ read. Factor self.language here.entry (tree read.0.value) read.1) }
     {
         let (of, behind) = reference(self.alloc, self.language, here)?;
         let next = behind.next();
@@ -283,6 +304,7 @@ impl Descent {
     #[cycle(descent)]
     fn index<'a>(self, of: Ref, at: u32, here: Cursor<'a>) -> Result<(Box<Expr>, Cursor<'a>), Fault>
         ensures shorter { IfOk result (λ read. length read.1 < length here.entry) }
+        ensures ok { IfOk result (λ read. IndexBehind self.language of at here.entry (tree read.0.value) read.1) }
     {
         let (place, behind) = self.expr(here)?;
         let behind = behind.behind_close_bracket()?;
@@ -291,7 +313,9 @@ impl Descent {
 }
 
 /// The operator of a relation.
-fn relation(symbol: Symbol) -> Option<Op> {
+fn relation(symbol: Symbol) -> Option<Op>
+    ensures { result ≡ relation_of symbol }
+{
     match symbol {
         Symbol::Equal => Some(Op::Eq),
         Symbol::Unequal => Some(Op::Ne),
@@ -304,7 +328,9 @@ fn relation(symbol: Symbol) -> Option<Op> {
 }
 
 /// The operator of a sum.
-fn adding(symbol: Symbol) -> Option<Op> {
+fn adding(symbol: Symbol) -> Option<Op>
+    ensures { result ≡ adding_of symbol }
+{
     match symbol {
         Symbol::Plus => Some(Op::Add),
         Symbol::Minus => Some(Op::Sub),

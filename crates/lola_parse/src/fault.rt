@@ -1,3 +1,6 @@
+ghost use Rattle.std.specs.Prelude.{◌≡◌};
+ghost use Rattle.lola_parse.specs.declared.fault.Fault.TheVariants.{Memory};
+
 use lola_bits::Memory;
 use std::alloc::{AllocError, AllocFailed};
 
@@ -14,18 +17,24 @@ pub enum Fault {
 }
 
 impl From<Memory> for Fault {
+    ghost from_gives = { λ _ fault. fault ≡ Memory };
+
     fn from(_error: Memory) -> Fault {
         Fault::Memory
     }
 }
 
 impl From<AllocError> for Fault {
+    ghost from_gives = { λ _ fault. fault ≡ Memory };
+
     fn from(_error: AllocError) -> Fault {
         Fault::Memory
     }
 }
 
 impl<T: Drop> From<AllocFailed<T>> for Fault {
+    ghost from_gives = { λ _ fault. fault ≡ Memory };
+
     fn from(_error: AllocFailed<T>) -> Fault {
         Fault::Memory
     }

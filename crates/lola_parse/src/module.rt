@@ -1,4 +1,7 @@
-ghost use Rattle.std.specs.Prelude.{ℕ, ◌<◌, ◌≤◌, length, IfOk};
+ghost use Rattle.std.specs.Prelude.{ℕ, ◌<◌, ◌≤◌, length, IfOk, OnOk, map, ◌≡◌, [], ◌++◌};
+ghost use Rattle.lola_tree.specs.Tree.{stmt_tree, module_tree, source_tree};
+ghost use Rattle.lola_parse.specs.Design.{SpellsSource, OneModule, Begun, Ports, Directed, Group, port_of, way_of, Declarations, MoreConstants, Constant, Registers, RegisterRow, MoreVariables, VariableRow, VariableKind, local_of};
+ghost use Rattle.lola_parse.specs.Behind.{GroupsBehind};
 
 use crate::cursor::Cursor;
 use crate::fault::Fault;
@@ -10,7 +13,9 @@ use lola_tree::{Const, Local, LocalKind, Module, Named, Port, Shape, Source, Stm
 use std::alloc::Global;
 
 /// `module {module}` up to the end of the text.
-pub(crate) fn source<'a>(alloc: Global, here: Cursor<'a>) -> Result<Source, Fault> {
+pub(crate) fn source<'a>(alloc: Global, here: Cursor<'a>) -> Result<Source, Fault>
+    ensures ok { IfOk result (λ tree. SpellsSource here.entry (source_tree tree)) }
+{
     let (first, mut behind) = module(alloc, here)?;
     let mut modules = Vec::new(alloc);
     modules.push(first)?;
@@ -27,6 +32,7 @@ pub(crate) fn source<'a>(alloc: Global, here: Cursor<'a>) -> Result<Source, Faul
 /// A module.
 fn module<'a>(alloc: Global, here: Cursor<'a>) -> Result<(Module, Cursor<'a>), Fault>
     ensures shorter { IfOk result (λ read. length read.1 < length here.entry) }
+    ensures ok { IfOk result (λ read. OneModule here.entry (module_tree read.0) read.1) }
 {
     let (title, behind) = name(alloc, here.behind_module()?)?;
     let (ports, behind) = ports(alloc, behind.behind_open_paren()?)?;
@@ -54,6 +60,7 @@ fn module<'a>(alloc: Global, here: Cursor<'a>) -> Result<(Module, Cursor<'a>), F
 /// `["BEGIN" [stmt] {";" [stmt]}]`.
 fn begun<'a>(alloc: Global, here: Cursor<'a>) -> Result<(Vec<Stmt>, Cursor<'a>), Fault>
     ensures shorter { IfOk result (λ read. length read.1 ≤ length here.entry) }
+    ensures ok { IfOk result (λ read. Begun here.entry (map stmt_tree read.0.items) read.1) }
 {
     let next = here.next();
     match next.symbol {
@@ -65,6 +72,7 @@ fn begun<'a>(alloc: Global, here: Cursor<'a>) -> Result<(Vec<Stmt>, Cursor<'a>),
 /// `[ports {";" ports}]`.
 fn ports<'a>(alloc: Global, here: Cursor<'a>) -> Result<(Vec<Port>, Cursor<'a>), Fault>
     ensures shorter { IfOk result (λ read. length read.1 ≤ length here.entry) }
+    ensures ok { IfOk result (λ read. Ports here.entry read.0.items read.1) }
 {
     let next = here.next();
     match way(next.symbol) {
@@ -74,7 +82,9 @@ fn ports<'a>(alloc: Global, here: Cursor<'a>) -> Result<(Vec<Port>, Cursor<'a>),
 }
 
 /// The direction that a word says.
-fn way(symbol: Symbol) -> Option<Way> {
+fn way(symbol: Symbol) -> Option<Way>
+    ensures { result ≡ way_of symbol }
+{
     match symbol {
         Symbol::In => Some(Way::Inward),
         Symbol::Out => Some(Way::Outward),
@@ -86,6 +96,7 @@ fn way(symbol: Symbol) -> Option<Way> {
 /// The groups of ports behind the first direction. A group without one has that of the group before.
 fn groups<'a>(alloc: Global, first: Way, here: Cursor<'a>) -> Result<(Vec<Port>, Cursor<'a>), Fault>
     ensures shorter { IfOk result (λ read. length read.1 < length here.entry) }
+    ensures ok { IfOk result (λ read. GroupsBehind first here.entry read.0.items read.1) }
 {
     let mut current = first;
     let (mut ports, mut behind) = group(alloc, current, Vec::new(alloc), here)?;
@@ -107,6 +118,7 @@ fn groups<'a>(alloc: Global, first: Way, here: Cursor<'a>) -> Result<(Vec<Port>,
 /// `["IN" | "OUT" | "INOUT"]`; where none is written, the direction from before.
 fn said_way<'a>(before: Way, here: Cursor<'a>) -> (Way, Cursor<'a>)
     ensures shorter { length result.1 ≤ length here.entry }
+    ensures ok { Directed before here.entry result.0 result.1 }
 {
     let next = here.next();
     match way(next.symbol) {
@@ -123,6 +135,7 @@ fn group<'a>(
     here: Cursor<'a>,
 ) -> Result<(Vec<Port>, Cursor<'a>), Fault>
     ensures shorter { IfOk result (λ read. length read.1 < length here.entry) }
+    ensures ok { IfOk result (λ read. Group way ports.items here.entry read.0.items read.1) }
 {
     let (names, behind) = names(alloc, here)?;
     let (shape, behind) = shape(alloc, behind.behind_colon()?)?;
@@ -137,7 +150,9 @@ fn add_ports(
     names: &[Named],
     shape: &Shape,
     ports: &mut Vec<Port>,
-) -> Result<(), Fault> {
+) -> Result<(), Fault>
+    ensures { OnOk result (ports.new.items ≡ ports.old.items ++ map (port_of way shape.now) names.now) }
+{
     for named in names {
         ports.push(Port {
             way,
@@ -159,6 +174,7 @@ struct Declared {
 /// `{consts | regs | vars}`.
 fn declarations<'a>(alloc: Global, here: Cursor<'a>) -> Result<(Declared, Cursor<'a>), Fault>
     ensures shorter { IfOk result (λ read. length read.1 ≤ length here.entry) }
+    ensures ok { IfOk result (λ read. Declarations [] [] here.entry read.0.consts.items read.0.locals.items read.1) }
 {
     let mut consts = Vec::new(alloc);
     let mut locals = Vec::new(alloc);
@@ -193,6 +209,7 @@ fn constants<'a>(
     here: Cursor<'a>,
 ) -> Result<(Vec<Const>, Cursor<'a>), Fault>
     ensures shorter { IfOk result (λ read. length read.1 ≤ length here.entry) }
+    ensures ok { IfOk result (λ read. MoreConstants consts.items here.entry read.0.items read.1) }
 {
     let mut consts = consts;
     let mut behind = here;
@@ -211,6 +228,7 @@ fn constants<'a>(
 /// `name ":=" number ";"`.
 fn constant<'a>(alloc: Global, here: Cursor<'a>) -> Result<(Const, Cursor<'a>), Fault>
     ensures shorter { IfOk result (λ read. length read.1 < length here.entry) }
+    ensures ok { IfOk result (λ read. Constant here.entry read.0 read.1) }
 {
     let (named, behind) = name(alloc, here)?;
     let behind = behind.behind_assign()?;
@@ -241,6 +259,7 @@ fn registers<'a>(
     here: Cursor<'a>,
 ) -> Result<(Vec<Local>, Cursor<'a>), Fault>
     ensures shorter { IfOk result (λ read. length read.1 < length here.entry) }
+    ensures ok { IfOk result (λ read. Registers locals.items here.entry read.0.items read.1) }
 {
     let (clock, behind) = name(alloc, here.behind_open_paren()?)?;
     let (mut locals, mut behind) = register_row(
@@ -269,6 +288,7 @@ fn register_row<'a>(
     here: Cursor<'a>,
 ) -> Result<(Vec<Local>, Cursor<'a>), Fault>
     ensures shorter { IfOk result (λ read. length read.1 < length here.entry) }
+    ensures ok { IfOk result (λ read. RegisterRow clock.now locals.items here.entry read.0.items read.1) }
 {
     let (names, behind) = names(alloc, here)?;
     let (shape, behind) = shape(alloc, behind.behind_colon()?)?;
@@ -288,6 +308,7 @@ fn variables<'a>(
     here: Cursor<'a>,
 ) -> Result<(Vec<Local>, Cursor<'a>), Fault>
     ensures shorter { IfOk result (λ read. length read.1 ≤ length here.entry) }
+    ensures ok { IfOk result (λ read. MoreVariables locals.items here.entry read.0.items read.1) }
 {
     let mut locals = locals;
     let mut behind = here;
@@ -310,6 +331,7 @@ fn variable_row<'a>(
     here: Cursor<'a>,
 ) -> Result<(Vec<Local>, Cursor<'a>), Fault>
     ensures shorter { IfOk result (λ read. length read.1 < length here.entry) }
+    ensures ok { IfOk result (λ read. VariableRow locals.items here.entry read.0.items read.1) }
 {
     let (names, behind) = names(alloc, here)?;
     let (kind, behind) = variable_kind(alloc, behind.behind_colon()?)?;
@@ -321,6 +343,7 @@ fn variable_row<'a>(
 /// `type | name`.
 fn variable_kind<'a>(alloc: Global, here: Cursor<'a>) -> Result<(LocalKind, Cursor<'a>), Fault>
     ensures shorter { IfOk result (λ read. length read.1 < length here.entry) }
+    ensures ok { IfOk result (λ read. VariableKind here.entry read.0 read.1) }
 {
     match here.next().symbol {
         Symbol::Name => {
@@ -340,7 +363,9 @@ fn add_locals(
     kind: &LocalKind,
     names: &[Named],
     locals: &mut Vec<Local>,
-) -> Result<(), Fault> {
+) -> Result<(), Fault>
+    ensures { OnOk result (locals.new.items ≡ locals.old.items ++ map (local_of kind.now) names.now) }
+{
     for named in names {
         locals.push(Local {
             kind: copy_kind(alloc, kind)?,

@@ -1,6 +1,10 @@
 ghost use Rattle.std.specs.Prelude.{ℕ, ◌<◌, ◌≤◌, ◌^◌, length, IfOk};
-ghost use Rattle.lola_parse.specs.Symbols.{AreIn};
+ghost use Rattle.std.specs.Prelude.{List};
+ghost use Rattle.lola_scan.specs.declared.token.Token.{Token as Scanned};
 ghost use Rattle.lola_scan.specs.Tokens.{Spells};
+ghost use Rattle.lola_parse.specs.Symbols.{AreIn, items_of};
+ghost use Rattle.lola_parse.specs.Design.{SpellsSource, Reads};
+ghost use Rattle.lola_tree.specs.Tree.{tree, source_tree};
 
 use crate::cursor::Cursor;
 use crate::expression::outermost;
@@ -34,6 +38,7 @@ pub enum ParseError {
 pub fn parse(alloc: Global, text: &[u8], tokens: &[Token]) -> Result<Source, ParseError>
     requires short { length text.now < 2 ^ 32 }
     requires lie_within { AreIn text.now tokens.now }
+    ensures ok { IfOk result (λ tree. SpellsSource (items_of Language.Design text.now tokens.now) (source_tree tree)) }
 {
     match source(alloc, Cursor::new(Language::Design, text, tokens)) {
         Ok(tree) => Ok(tree),
@@ -54,6 +59,7 @@ pub fn parse_expr(
     requires short { length text.now < 2 ^ 32 }
     requires lie_within { AreIn text.now tokens.now }
     requires from_in { from ≤ length tokens.now }
+    ensures ok { IfOk result (λ read. Reads Language.Design text.now tokens.now from (tree read.0) read.1) }
 {
     expr_from(alloc, Language::Design, text, tokens, from)
 }
@@ -69,6 +75,7 @@ pub fn parse_table_expr(
     requires short { length text.now < 2 ^ 32 }
     requires lie_within { AreIn text.now tokens.now }
     requires from_in { from ≤ length tokens.now }
+    ensures ok { IfOk result (λ read. Reads Language.Table text.now tokens.now from (tree read.0) read.1) }
 {
     expr_from(alloc, Language::Table, text, tokens, from)
 }
@@ -84,6 +91,7 @@ fn expr_from(
     requires short { length text.now < 2 ^ 32 }
     requires lie_within { AreIn text.now tokens.now }
     requires from_in { from ≤ length tokens.now }
+    ensures ok { IfOk result (λ read. Reads language text.now tokens.now from (tree read.0) read.1) }
 {
     let (_, rest) = tokens.split_at(from);
     match outermost(alloc, language, Cursor::new(language, text, rest)) {
@@ -117,10 +125,7 @@ fn place(text: &[u8], tokens: &[Token], left: usize) -> u32
     }
 }
 
-/// The tokens that `scan` gives for a text lie within it, in ASCII.
-pub fn tokens_lie_within(text: &[u8], tokens: &[Token])
-    ensures { Spells 0 text.now tokens.now → AreIn text.now tokens.now }
-{
-    let _ = text.len();
-    let _ = tokens.len();
-}
+/// The tokens that a text spells lie within it, so callers with tokens of `scan` may call.
+pub fn tokens_lie_within()
+    ensures { (text : List ℕ) (tokens : List Scanned) → Spells 0 text tokens → AreIn text tokens }
+{}

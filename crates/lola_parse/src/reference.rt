@@ -1,4 +1,7 @@
-ghost use Rattle.std.specs.Prelude.{ℕ, ◌<◌, ◌≤◌, length, IfOk};
+ghost use Rattle.std.specs.Prelude.{ℕ, ◌<◌, ◌≤◌, length, IfOk, ◌≡◌, [], ◌∷◌};
+ghost use Rattle.lola_tree.specs.Tree.{tree};
+ghost use Rattle.lola_parse.specs.Grammar.{Counted, Times, Reference};
+ghost use Rattle.lola_parse.specs.Behind.{BitBehind, SliceBehind, PathBehind};
 
 use crate::cursor::Cursor;
 use crate::fault::Fault;
@@ -15,13 +18,14 @@ pub(crate) fn count<'a>(
     here: Cursor<'a>,
 ) -> Result<(Count, Cursor<'a>), Fault>
     ensures shorter { IfOk result (λ read. length read.1 < length here.entry) }
+    ensures ok { IfOk result (λ read. Counted language here.entry read.0 read.1) }
 {
     let next = here.next();
     match next.symbol {
-        Symbol::Number { value, width: None } => Ok((
-            Count::Fixed { value, at: next.at },
-            next.rest,
-        )),
+        Symbol::Number { value, width } => match width {
+            None => Ok((Count::Fixed { value, at: next.at }, next.rest)),
+            Some(_) => Err(here.fault()),
+        },
         Symbol::Name => match language {
             Language::Design => {
                 let name = Name::new(alloc, next.spelled)?;
@@ -42,10 +46,10 @@ pub(crate) fn count<'a>(
 pub(crate) fn begins_slice(language: Language, here: &Cursor) -> bool {
     let next = here.next();
     match next.symbol {
-        Symbol::Number {
-            value: _,
-            width: None,
-        } => begins_with_colon(&next.rest),
+        Symbol::Number { value: _, width } => match width {
+            None => begins_with_colon(&next.rest),
+            Some(_) => false,
+        },
         Symbol::Name => match language {
             Language::Design => begins_with_colon(&next.rest),
             Language::Table => false,
@@ -70,6 +74,7 @@ pub(crate) fn times<'a>(
     here: Cursor<'a>,
 ) -> Result<(Count, Cursor<'a>), Fault>
     ensures shorter { IfOk result (λ read. length read.1 ≤ length here.entry) }
+    ensures ok { IfOk result (λ read. Times language at here.entry read.0 read.1) }
 {
     let next = here.next();
     match next.symbol {
@@ -87,6 +92,7 @@ pub(crate) fn bit<'a>(
     here: Cursor<'a>,
 ) -> Result<(Box<Expr>, Cursor<'a>), Fault>
     ensures shorter { IfOk result (λ read. length read.1 < length here.entry) }
+    ensures ok { IfOk result (λ read. BitBehind language of at here.entry (tree read.0.value) read.1) }
 {
     let (index, behind) = count(alloc, language, here)?;
     Ok((bit_of(alloc, of, index, at)?, behind))
@@ -101,6 +107,7 @@ pub(crate) fn slice<'a>(
     here: Cursor<'a>,
 ) -> Result<(Box<Expr>, Cursor<'a>), Fault>
     ensures shorter { IfOk result (λ read. length read.1 < length here.entry) }
+    ensures ok { IfOk result (λ read. SliceBehind language of at here.entry (tree read.0.value) read.1) }
 {
     let (high, behind) = count(alloc, language, here)?;
     let behind = behind.behind_colon()?;
@@ -116,6 +123,7 @@ pub(crate) fn reference<'a>(
     here: Cursor<'a>,
 ) -> Result<(Ref, Cursor<'a>), Fault>
     ensures shorter { IfOk result (λ read. length read.1 < length here.entry) }
+    ensures ok { IfOk result (λ read. Reference language here.entry read.0 read.1) }
 {
     let next = here.next();
     match next.symbol {
@@ -151,6 +159,7 @@ pub(crate) fn reference<'a>(
 /// `word {"." word}`, behind an `@`. Reserved words are words too.
 fn path<'a>(alloc: Global, here: Cursor<'a>) -> Result<(Vec<Name>, Cursor<'a>), Fault>
     ensures shorter { IfOk result (λ read. length read.1 < length here.entry) }
+    ensures ok { IfOk result (λ read. PathBehind here.entry read.0.items read.1) }
 {
     let next = here.next();
     if !next.is_word {
@@ -175,7 +184,9 @@ fn path<'a>(alloc: Global, here: Cursor<'a>) -> Result<(Vec<Name>, Cursor<'a>), 
 }
 
 /// A path of one name.
-fn one_name(alloc: Global, text: &str) -> Result<Vec<Name>, Memory> {
+fn one_name(alloc: Global, text: &str) -> Result<Vec<Name>, Memory>
+    ensures { IfOk result (λ path. path.items ≡ text.now ∷ []) }
+{
     let mut path = Vec::new(alloc);
     path.push(Name::new(alloc, text)?)?;
     Ok(path)

@@ -1,4 +1,6 @@
 ghost use Rattle.std.specs.Prelude.{ℕ, ◌≡◌, ◌<◌, ◌≤◌, length, IfOk};
+ghost use Rattle.lola_parse.specs.Design.{NameList, Shaped};
+ghost use Rattle.lola_parse.specs.Behind.{ShapeBehind, VectorsBehind};
 
 use crate::cursor::Cursor;
 use crate::fault::Fault;
@@ -12,6 +14,7 @@ use std::alloc::Global;
 /// `name {"," name}`.
 pub(crate) fn names<'a>(alloc: Global, here: Cursor<'a>) -> Result<(Vec<Named>, Cursor<'a>), Fault>
     ensures shorter { IfOk result (λ read. length read.1 < length here.entry) }
+    ensures ok { IfOk result (λ read. NameList here.entry read.0.items read.1) }
 {
     let (first, mut behind) = name(alloc, here)?;
     let mut names = Vec::new(alloc);
@@ -32,6 +35,7 @@ pub(crate) fn names<'a>(alloc: Global, here: Cursor<'a>) -> Result<(Vec<Named>, 
 /// A type: `"BIT" | "BYTE" | "WORD" | "[" count "]" ..`.
 pub(crate) fn shape<'a>(alloc: Global, here: Cursor<'a>) -> Result<(Shape, Cursor<'a>), Fault>
     ensures shorter { IfOk result (λ read. length read.1 < length here.entry) }
+    ensures ok { IfOk result (λ read. Shaped here.entry read.0 read.1) }
 {
     let next = here.next();
     match next.symbol {
@@ -46,6 +50,7 @@ pub(crate) fn shape<'a>(alloc: Global, here: Cursor<'a>) -> Result<(Shape, Curso
 /// `count "]" ("BIT" | "BYTE" | "WORD" | "[" count "]" "BIT")`, behind a `[`.
 fn counted_shape<'a>(alloc: Global, here: Cursor<'a>) -> Result<(Shape, Cursor<'a>), Fault>
     ensures shorter { IfOk result (λ read. length read.1 < length here.entry) }
+    ensures ok { IfOk result (λ read. ShapeBehind here.entry read.0 read.1) }
 {
     let (count, behind) = count(alloc, Language::Design, here)?;
     let behind = behind.behind_close_bracket()?;
@@ -66,6 +71,7 @@ fn bit_array<'a>(
     here: Cursor<'a>,
 ) -> Result<(Shape, Cursor<'a>), Fault>
     ensures shorter { IfOk result (λ read. length read.1 < length here.entry) }
+    ensures ok { IfOk result (λ read. VectorsBehind number here.entry read.0 read.1) }
 {
     let (width, behind) = count(alloc, Language::Design, here)?;
     let behind = behind.behind_close_bracket()?.behind_bit()?;
@@ -79,14 +85,18 @@ fn bit_array<'a>(
 }
 
 /// A vector whose width a word says.
-fn fixed_vector(width: u128, at: u32) -> Shape {
+fn fixed_vector(width: u128, at: u32) -> Shape
+    ensures { result ≡ Shape.Vector (Count.Fixed width at) }
+{
     Shape::Vector {
         width: Count::Fixed { value: width, at },
     }
 }
 
 /// An array of vectors whose width a word says.
-fn fixed_array(count: Count, width: u128, at: u32) -> Shape {
+fn fixed_array(count: Count, width: u128, at: u32) -> Shape
+    ensures { result ≡ Shape.Array count (Count.Fixed width at) }
+{
     Shape::Array {
         count,
         width: Count::Fixed { value: width, at },

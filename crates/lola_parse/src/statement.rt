@@ -1,4 +1,8 @@
-ghost use Rattle.std.specs.Prelude.{ℕ, ◌<◌, ◌≤◌, length, IfOk};
+ghost use Rattle.std.specs.Prelude.{ℕ, ◌<◌, ◌≤◌, length, IfOk, map};
+ghost use Rattle.lola_tree.specs.Tree.{stmt_tree, actual_tree, place_tree};
+ghost use Rattle.lola_parse.specs.Grammar.{Names};
+ghost use Rattle.lola_parse.specs.Design.{Argument, Statement, Optional, Body};
+ghost use Rattle.lola_parse.specs.Behind.{StatementBehind, AssignedBehind, PlacedBehind, CalledBehind, ArgumentsBehind, PadBehind};
 
 use crate::cursor::Cursor;
 use crate::expression::outermost;
@@ -11,6 +15,7 @@ use std::alloc::Global;
 /// A name at the front, and what stands behind it.
 pub(crate) fn name<'a>(alloc: Global, here: Cursor<'a>) -> Result<(Named, Cursor<'a>), Fault>
     ensures shorter { IfOk result (λ read. length read.1 < length here.entry) }
+    ensures ok { IfOk result (λ read. Names read.0.name read.0.at here.entry read.1) }
 {
     let next = here.next();
     match next.symbol {
@@ -25,6 +30,7 @@ pub(crate) fn name<'a>(alloc: Global, here: Cursor<'a>) -> Result<(Named, Cursor
 /// A statement: an assignment, a call or the drive of a pad.
 pub(crate) fn statement<'a>(alloc: Global, here: Cursor<'a>) -> Result<(Stmt, Cursor<'a>), Fault>
     ensures shorter { IfOk result (λ read. length read.1 < length here.entry) }
+    ensures ok { IfOk result (λ read. Statement here.entry (stmt_tree read.0) read.1) }
 {
     let next = here.next();
     match next.symbol {
@@ -44,6 +50,7 @@ fn named_statement<'a>(
     here: Cursor<'a>,
 ) -> Result<(Stmt, Cursor<'a>), Fault>
     ensures shorter { IfOk result (λ read. length read.1 < length here.entry) }
+    ensures ok { IfOk result (λ read. StatementBehind target.name target.at here.entry (stmt_tree read.0) read.1) }
 {
     let next = here.next();
     match next.symbol {
@@ -63,6 +70,7 @@ fn assigned<'a>(
     here: Cursor<'a>,
 ) -> Result<(Stmt, Cursor<'a>), Fault>
     ensures shorter { IfOk result (λ read. length read.1 < length here.entry) }
+    ensures ok { IfOk result (λ read. AssignedBehind target.name (place_tree place) target.at equals here.entry (stmt_tree read.0) read.1) }
 {
     let (value, behind) = outermost(alloc, Language::Design, here)?;
     let Named { name, at } = target;
@@ -86,6 +94,7 @@ fn placed<'a>(
     here: Cursor<'a>,
 ) -> Result<(Stmt, Cursor<'a>), Fault>
     ensures shorter { IfOk result (λ read. length read.1 < length here.entry) }
+    ensures ok { IfOk result (λ read. PlacedBehind target.name target.at at here.entry (stmt_tree read.0) read.1) }
 {
     let (value, behind) = outermost(alloc, Language::Design, here)?;
     let behind = behind.behind_close_bracket()?;
@@ -105,6 +114,7 @@ fn placed<'a>(
 /// `expr {"," expr} ")"`, behind the `(` of a call.
 fn called<'a>(alloc: Global, target: Named, here: Cursor<'a>) -> Result<(Stmt, Cursor<'a>), Fault>
     ensures shorter { IfOk result (λ read. length read.1 < length here.entry) }
+    ensures ok { IfOk result (λ read. CalledBehind target.name target.at here.entry (stmt_tree read.0) read.1) }
 {
     let (args, behind) = arguments(alloc, here)?;
     let behind = behind.behind_close_paren()?;
@@ -122,6 +132,7 @@ fn called<'a>(alloc: Global, target: Named, here: Cursor<'a>) -> Result<(Stmt, C
 /// `expr {"," expr}`.
 fn arguments<'a>(alloc: Global, here: Cursor<'a>) -> Result<(Vec<Actual>, Cursor<'a>), Fault>
     ensures shorter { IfOk result (λ read. length read.1 < length here.entry) }
+    ensures ok { IfOk result (λ read. ArgumentsBehind here.entry (map actual_tree read.0.items) read.1) }
 {
     let (first, mut behind) = argument(alloc, here)?;
     let mut args = Vec::new(alloc);
@@ -142,6 +153,7 @@ fn arguments<'a>(alloc: Global, here: Cursor<'a>) -> Result<(Vec<Actual>, Cursor
 /// An expression as an argument, with the place of its first token.
 fn argument<'a>(alloc: Global, here: Cursor<'a>) -> Result<(Actual, Cursor<'a>), Fault>
     ensures shorter { IfOk result (λ read. length read.1 < length here.entry) }
+    ensures ok { IfOk result (λ read. Argument here.entry (actual_tree read.0) read.1) }
 {
     let at = here.at();
     let (value, behind) = outermost(alloc, Language::Design, here)?;
@@ -151,6 +163,7 @@ fn argument<'a>(alloc: Global, here: Cursor<'a>) -> Result<(Actual, Cursor<'a>),
 /// `"(" name "," name "," expr "," expr ")"`, behind the `TS` at `at`.
 fn pad<'a>(alloc: Global, at: u32, here: Cursor<'a>) -> Result<(Stmt, Cursor<'a>), Fault>
     ensures shorter { IfOk result (λ read. length read.1 < length here.entry) }
+    ensures ok { IfOk result (λ read. PadBehind at here.entry (stmt_tree read.0) read.1) }
 {
     let (io, behind) = name(alloc, here.behind_open_paren()?)?;
     let (inner, behind) = name(alloc, behind.behind_comma()?)?;
@@ -172,6 +185,7 @@ fn pad<'a>(alloc: Global, at: u32, here: Cursor<'a>) -> Result<(Stmt, Cursor<'a>
 /// `[stmt] {";" [stmt]}`.
 pub(crate) fn body<'a>(alloc: Global, here: Cursor<'a>) -> Result<(Vec<Stmt>, Cursor<'a>), Fault>
     ensures shorter { IfOk result (λ read. length read.1 ≤ length here.entry) }
+    ensures ok { IfOk result (λ read. Body here.entry (map stmt_tree read.0.items) read.1) }
 {
     let (mut body, mut behind) = with_statement(alloc, Vec::new(alloc), here)?;
     'body: loop {
@@ -194,6 +208,7 @@ fn with_statement<'a>(
     here: Cursor<'a>,
 ) -> Result<(Vec<Stmt>, Cursor<'a>), Fault>
     ensures shorter { IfOk result (λ read. length read.1 ≤ length here.entry) }
+    ensures ok { IfOk result (λ read. Optional (map stmt_tree body.items) here.entry (map stmt_tree read.0.items) read.1) }
 {
     match here.next().symbol {
         Symbol::Name | Symbol::Ts => {

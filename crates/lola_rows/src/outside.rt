@@ -11,12 +11,17 @@ const TOGGLER: &[u8] =
 const TABLE: &[u8] =
     b"TABLE T1 FOR Tog; ROLES RESET rst = 1; LOADED t;\nSTATE q: BIT IS @q; INVARIANT 1; BOUNDARY 1; START q := 0;\nCLASS flip \"-\" PHASE LOAD; SET q := q ^ d0; END T1.";
 
-/// The files of the toggler, under `tog.lola` and `tog.table`.
-fn toggler(alloc: Global, failing: Vec<u64>) -> Result<MemStore, Fail> {
+/// A store of a design and a table, under `tog.lola` and `tog.table`.
+fn store(alloc: Global, source: &[u8], table: &[u8], failing: Vec<u64>) -> Result<MemStore, Fail> {
     let mut files = Vec::new(alloc);
-    files.push((String::from_str(alloc, "tog.lola")?, TOGGLER.to_vec(alloc)?))?;
-    files.push((String::from_str(alloc, "tog.table")?, TABLE.to_vec(alloc)?))?;
+    files.push((String::from_str(alloc, "tog.lola")?, source.to_vec(alloc)?))?;
+    files.push((String::from_str(alloc, "tog.table")?, table.to_vec(alloc)?))?;
     Ok(MemStore::new(alloc, files, failing).map_err(|_| "memory")?)
+}
+
+/// The files of the toggler.
+fn toggler(alloc: Global, failing: Vec<u64>) -> Result<MemStore, Fail> {
+    store(alloc, TOGGLER, TABLE, failing)
 }
 
 /// Runs a command over files, and compares the status and what is printed.
@@ -93,36 +98,25 @@ fn a_failed_read_names_its_file(rt: HostRuntime) -> Result<(), Fail> {
 #[test]
 fn a_text_over_its_limit_is_refused(rt: HostRuntime) -> Result<(), Fail> {
     let alloc = rt.alloc();
-    let mut files = Vec::new(alloc);
-    files.push((
-        String::from_str(alloc, "long.lola")?,
-        vec![in alloc; b' '; 1_048_577]?,
-    ))?;
-    let files = MemStore::new(alloc, files, Vec::new(alloc)).map_err(|_| "memory")?;
-    let words = ["decide", "long.lola", "tog.table"];
+    let words = ["decide", "tog.lola", "tog.table"];
+    let long = vec![in alloc; b' '; 1_048_577]?;
+    let files = store(alloc, long.as_slice(), TABLE, Vec::new(alloc))?;
     expect(
         &rt,
         alloc,
         &words,
         files,
         Status::Limit,
-        b"limit: text long.lola\n",
+        b"limit: text tog.lola\n",
     )?;
-    let mut files = Vec::new(alloc);
-    files.push((String::from_str(alloc, "tog.lola")?, TOGGLER.to_vec(alloc)?))?;
-    files.push((
-        String::from_str(alloc, "long.table")?,
-        vec![in alloc; b' '; 1_048_577]?,
-    ))?;
-    let files = MemStore::new(alloc, files, Vec::new(alloc)).map_err(|_| "memory")?;
-    let words = ["decide", "tog.lola", "long.table"];
+    let files = store(alloc, TOGGLER, long.as_slice(), Vec::new(alloc))?;
     expect(
         &rt,
         alloc,
         &words,
         files,
         Status::Limit,
-        b"limit: text long.table\n",
+        b"limit: text tog.table\n",
     )
 }
 

@@ -1,8 +1,16 @@
-use Rattle.std.proofs.Common.{◌<◌, length}
+use Rattle.std.proofs.Common.{◌<◌, length, List}
+use Rattle.lola_parse.specs.Symbols.{Item}
+use Rattle.lola_tree.specs.declared.module.Port.{Port}
+use Rattle.lola_parse.specs.Design.{MoreGroups}
+use Rattle.lola_parse.specs.Behind.{GroupsBehind}
 use Rattle.lola_parse.proofs.module.groups.Given as goal
 
+-- what goes on with the groups so far completes them
 abbrev pub invariant-groups : goal.invariant-groups
-invariant-groups l = length l.behind < length l.fn.here
+invariant-groups l = record {
+  shorter : length l.behind < length l.fn.here;
+  reads : (ports : List Port) (rest : List Item) → MoreGroups l.current l.ports.items l.behind ports rest → GroupsBehind l.fn.first l.fn.here ports rest;
+}
 
 abbrev pub decreases-groups : goal.decreases-groups
 decreases-groups l = length l.behind

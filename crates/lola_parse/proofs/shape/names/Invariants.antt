@@ -1,8 +1,15 @@
-use Rattle.std.proofs.Common.{◌<◌, length}
+use Rattle.std.proofs.Common.{◌<◌, length, List}
+use Rattle.lola_parse.specs.Symbols.{Item}
+use Rattle.lola_tree.specs.declared.named.Named.{Named}
+use Rattle.lola_parse.specs.Design.{MoreNames, NameList}
 use Rattle.lola_parse.proofs.shape.names.Given as goal
 
+-- what goes on with the names so far completes them
 abbrev pub invariant-names : goal.invariant-names
-invariant-names l = length l.behind < length l.fn.here
+invariant-names l = record {
+  shorter : length l.behind < length l.fn.here;
+  reads : (names : List Named) (rest : List Item) → MoreNames l.names.items l.behind names rest → NameList l.fn.here names rest;
+}
 
 abbrev pub decreases-names : goal.decreases-names
 decreases-names l = length l.behind

@@ -1,0 +1,15 @@
+use Rattle.std.proofs.Common.{refl, ap, ◌∙◌}
+use Rattle.lola_parse.specs.declared.symbol.Symbol.TheVariants as s
+use Rattle.lola_parse.specs.Grammar.{fixed}
+use Rattle.lola_parse.proofs.Fronts.{stands, names, counted_name}
+use Rattle.lola_parse.proofs.reference.count.Goals as goal
+
+pub returns-in-None-clause-ok : goal.returns-in-None-clause-ok
+returns-in-None-clause-ok c =
+    let front = c.next-next.result in
+    fixed c.in-Number.value front.at (stands c.args.here front _ c.next-next.ensures (c.in-Number.is ∙ ap (s.Number c.in-Number.value) c.in-None.is) refl) refl
+
+pub returns-in_ok-name-in-Design-clause-ok : goal.returns-in_ok-name-in-Design-clause-ok
+returns-in_ok-name-in-Design-clause-ok c =
+    let front = c.next-next.result in
+    counted_name _ _ _ _ _ _ c.in-Design.is c.in_ok-name-in-Design.ensures (names c.args.here front c.next-next.ensures c.in-Name.is)

@@ -1,0 +1,16 @@
+use Rattle.std.proofs.Common.{refl, ◌∙◌, ap, true, false}
+use Rattle.lola_parse.specs.declared.symbol.Symbol.TheVariants as s
+use Rattle.lola_parse.specs.Grammar.{plain, source}
+use Rattle.lola_parse.proofs.Fronts.{stands, names}
+use Rattle.lola_parse.proofs.reference.reference.Goals as goal
+
+pub returns-in_ok-path-in-Name-clause-ok : goal.returns-in_ok-path-in-Name-clause-ok
+returns-in_ok-path-in-Name-clause-ok c =
+    plain _ _ (names c.args.here c.next-next.result c.next-next.ensures c.in-Name.is)
+    (ap (λ p. record { source = false; path = p; at = c.next-next.result.at }) (c.of.ensures ∙ c.in_ok-path-in-Name.ensures))
+
+pub returns-in_ok-path-in-Table-clause-ok : goal.returns-in_ok-path-in-Table-clause-ok
+returns-in_ok-path-in-Table-clause-ok c =
+    let read = c.in_ok-path-in-Table.ensures.ok in
+    source _ _ c.next-next.result.rest read.behind c.in-Table.is (stands c.args.here c.next-next.result s.At c.next-next.ensures c.in-At.is refl) read.first read.more
+    (ap (λ p. record { source = true; path = p; at = c.next-next.result.at }) c.of-in-Table.ensures)

@@ -1,0 +1,9 @@
+-- The parts of a concatenation, as the code holds them.
+use Rattle.std.specs.Prelude.{List, [], ◌∷◌}
+use Rattle.lola_tree.specs.declared.expr.Part.{Part}
+use Rattle.lola_tree.specs.Tree.{tree, Parts, no_part, one_part}
+
+-- the parts as definitions read them
+abbrev pub parts_tree : List Part → Parts
+parts_tree [] = no_part
+parts_tree (p ∷ more) = one_part (tree p.value) p.times (parts_tree more)
