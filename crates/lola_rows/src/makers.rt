@@ -1,6 +1,7 @@
 // Each call of the lower crates that may want memory, with enough of it.
 use lola_bits::{Bits, Name, Seq, fits};
-use lola_port::{MemSink, MemStore, Sink, Store, StoreError};
+use lola_port::{MemSink, MemStore, RealStore, Sink, Store, StoreError};
+use std::fs;
 use std::test::Fail;
 
 #[test]
@@ -56,5 +57,19 @@ fn a_sink_in_memory_keeps_its_pieces(rt: HostRuntime) -> Result<(), Fail> {
     assert!(rt; sink.write(b"cd").is_err());
     assert_eq!(rt; sink.write(b"ef"), Ok(2));
     assert_eq!(rt; sink.bytes(), b"abef".as_slice());
+    Ok(())
+}
+
+#[test]
+fn the_files_of_the_system_are_read_as_written(rt: HostRuntime) -> Result<(), Fail> {
+    let alloc = rt.alloc();
+    let name = "real_store_test.txt";
+    let mut store = RealStore::new(alloc, &rt);
+    assert_eq!(rt; store.write_all(alloc, name, b"one"), Ok(()));
+    let read = store.read_all(alloc, name, 3)?;
+    assert_eq!(rt; read.as_slice(), b"one".as_slice());
+    assert!(rt; matches!(store.read_all(alloc, name, 2), Err(StoreError::TooLong)));
+    fs::remove_file(&rt, name)?;
+    assert!(rt; matches!(store.read_all(alloc, name, 3), Err(StoreError::Failed)));
     Ok(())
 }
