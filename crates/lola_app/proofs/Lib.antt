@@ -1,6 +1,21 @@
 pub mod Appends
-pub mod Bits
 pub mod Lists
 pub mod Orders
-pub mod Theorem
 pub mod ThreeItems
+mod ByRow
+mod Printed
+mod Readings
+mod ScopeMeans
+mod SetRows
+mod ShownStates
+mod Theorem
+mod Behaves
+mod ClassNames
+mod Decided
+mod Due
+mod Fits
+mod Leaves
+mod NameRows
+mod Places
+mod Bridge
+mod Verdict

@@ -6,11 +6,12 @@ use Rattle.std.specs.List.{AllByRecursion}
 use Rattle.lola_tree.specs.Tree.{SourceTree}
 use Rattle.lola_tree.specs.Value.{Values, value}
 use Rattle.lola_tree.specs.Cycle.{IsState, IsGiven, Cycle, Next, Run, input_at}
-use Rattle.lola_app.specs.Table.{StateTree, SetTree, ClassTree, TableTree, Arch, Answer, IsClass, register_names, no_names, state_value, Boundary, Access, idle, Row}
+use Rattle.tab_tree.specs.Table.{active_value, idle_value, StateTree, SetTree, ClassTree, TableTree}
+use Rattle.tab_tree.specs.Step.{Arch, Answer, IsClass, source_names, no_names, state_value, Boundary, Access, idle, Row}
 
 -- the states that a state of the design shows
 abbrev pub shown : TableTree → Values → Arch
-shown T s = map (λ (row : StateTree). value row.shown (register_names s)) T.states
+shown T s = map (λ (row : StateTree). value row.shown (source_names s)) T.states
 
 -- the word that it shows; without CODE it is 0
 abbrev pub shown_word : TableTree → Values → ℕ
@@ -18,8 +19,8 @@ shown_word T s = 0
 
 -- a state of the design is at a boundary, and shows these states and this word
 pub record Shows (T : TableTree) (s : Values) (A : Arch) (word : ℕ) : Type 0 where
-  pub invariant : value T.invariant (register_names s) ≡ 1
-  pub boundary : value T.boundary (register_names s) ≡ 1
+  pub invariant : value T.invariant (source_names s) ≡ 1
+  pub boundary : value T.boundary (source_names s) ≡ 1
   pub states : shown T s ≡ A
   pub code : shown_word T s ≡ word
 
@@ -29,10 +30,10 @@ port_value inp port = inp (port ∷ [])
 
 -- RESET has its active value, or hasn't
 abbrev pub IsActive : TableTree → Values → Type 0
-IsActive T inp = port_value inp T.reset.port ≡ T.reset.value
+IsActive T inp = port_value inp T.reset.port ≡ active_value T.reset
 
 abbrev pub IsIdle : TableTree → Values → Type 0
-IsIdle T inp = port_value inp T.reset.port ≡ 1 - T.reset.value
+IsIdle T inp = port_value inp T.reset.port ≡ idle_value T.reset
 
 -- without STALL every cycle is unstalled
 abbrev pub is_unstalled : TableTree → Values → Bool

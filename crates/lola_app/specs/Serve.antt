@@ -1,12 +1,18 @@
 -- What a call of `serve` comes to, and what it leaves.
-use Rattle.std.specs.Prelude.{◌≡◌, ◌≢◌, ◌⊎◌, ℕ, ◌<◌, ◌≤◌, List, [], ◌∷◌, length, codes, Option, Some, IfSome, IsSomeAnd, Result, Ok, Err, string_bytes}
+use Rattle.std.specs.Prelude.{◌≡◌, ◌≢◌, ◌⊎◌, ℕ, ◌<◌, ◌≤◌, nat_eq, List, [], ◌∷◌, ◌++◌, length, codes, Option, Some, IfSome, IsSomeAnd, Result, Ok, Err, string_bytes}
+use Rattle.std.specs.List.{AllByRecursion}
+use Rattle.lola_tree.specs.Tree.{SourceTree}
+use Rattle.tab_tree.specs.Table.{TableTree}
+use Rattle.lola_app.specs.Accepts.{Accepts, AcceptsTable}
+use Rattle.lola_app.specs.Headline.{Resets, Commutes}
+use Rattle.lola_app.specs.Obligations.{Obligation, obligations, obligation_name, Valuation, HoldsAlways, AllHold, free_names, free_values, IsLeastViolation}
 use Rattle.lola_port.specs.Outside.{Files, Counts, lookup, RoseAt, Rose, Same, Appended}
 use Rattle.lola_app.specs.declared.reply.Reply.{Reply}
 use Rattle.lola_app.specs.declared.reply.Reply.TheVariants.{Unread, TooLong, NoMemory}
 use Rattle.lola_app.specs.declared.status.Status.{Status}
 use Rattle.lola_app.specs.declared.status.Status.TheVariants as status
 use Rattle.lola_app.specs.Printing.{AppendedFront}
-use Rattle.lola_app.specs.Reply.{Outcome, accepted, failed, wrong_words, source_not_built, table_not_built, unread, too_long, no_memory, status_of, text_of}
+use Rattle.lola_app.specs.Reply.{Line, Outcome, accepted, failed, wrong_words, source_not_built, table_not_built, unread, too_long, no_memory, status_of, text_of}
 
 -- the words are `decide` and the names of a design and of a table
 abbrev pub Decide : List (List ℕ) → List ℕ → List ℕ → Type 0
@@ -16,41 +22,102 @@ Decide words source table = words ≡ codes "decide" ∷ source ∷ table ∷ []
 abbrev pub text_limit : ℕ
 text_limit = 1048576
 
--- as far as the list is told, a text stands under the name, and no longer than it may be
-abbrev pub IsText : Option Files → List ℕ → Type 0
-IsText told name = IfSome told (λ files. IsSomeAnd (lookup files name) (λ bytes. length bytes ≤ text_limit))
+-- a text of a name: no longer than it may be, and as far as the list is told, it stands under the name
+pub record IsText (told : Option Files) (name text : List ℕ) : Type 0 where
+  pub short : length text ≤ text_limit
+  pub stands : IfSome told (λ files. lookup files name ≡ Some text)
 
 -- as far as the list is told, what stands under the name is too long for a text
 abbrev pub IsTooLong : Option Files → List ℕ → Type 0
 IsTooLong told name = IfSome told (λ files. IsSomeAnd (lookup files name) (λ bytes. text_limit < length bytes))
 
--- `decide` was asked of two files, and both are texts
-pub record Asked (words : List (List ℕ)) (told : Option Files) : Type 0 where
-  pub source : List ℕ
-  pub table : List ℕ
-  pub decide : Decide words source table
-  pub source_text : IsText told source
-  pub table_text : IsText told table
+-- `decide` was asked of two files, and these are their texts
+pub record Asked (words : List (List ℕ)) (told : Option Files) (source table : List ℕ) : Type 0 where
+  pub source_name : List ℕ
+  pub table_name : List ℕ
+  pub decide : Decide words source_name table_name
+  pub source_text : IsText told source_name source
+  pub table_text : IsText told table_name table
 
 -- `decide` was asked, and the word is that of the file that is read first, or the other's, and then
 -- the first is a text
 pub record AskedFor (words : List (List ℕ)) (told : Option Files) (word : List ℕ) : Type 0 where
+  pub source_name : List ℕ
+  pub table_name : List ℕ
+  pub decide : Decide words source_name table_name
+  pub turn : (word ≡ source_name) ⊎ ((word ≡ table_name) × ((source : List ℕ) × IsText told source_name source))
+
+-- all obligations of the table on the design hold, and so both halves of the headline do; the numbers
+-- are those of the obligations and of the classes inside the claim
+pub record IsYes (source table : List ℕ) (obliged inside : ℕ) : Type 0 where
+  pub S : SourceTree
+  pub T : TableTree
+  pub design : Accepts source S
+  pub fitting : AcceptsTable S table T
+  pub all : AllHold S T
+  pub resets : Resets S T
+  pub commutes : Commutes S T
+  pub obliged_is : obliged ≡ length (obligations T)
+  pub inside_is : inside ≡ length T.classes
+
+-- the lines of a valuation: the names that an obligation leaves free, each with its bit
+abbrev pub lines_of : List (List ℕ) → List ℕ → List Line
+lines_of [] values = []
+lines_of (name ∷ names) [] = []
+lines_of (name ∷ names) (n ∷ values) = record { name = name; value = nat_eq n 1 } ∷ lines_of names values
+
+-- some obligation doesn't hold at some valuation: the first such in their order, named, with its least
+-- valuation
+pub record IsNo (source table : List ℕ) (name : List ℕ) (lines : List Line) : Type 0 where
+  pub S : SourceTree
+  pub T : TableTree
+  pub design : Accepts source S
+  pub fitting : AcceptsTable S table T
+  pub before : List Obligation
+  pub first : Obligation
+  pub later : List Obligation
+  pub listed : obligations T ≡ before ++ first ∷ later
+  pub earlier : AllByRecursion (HoldsAlways S T) before
+  pub valuation : Valuation
+  pub least : IsLeastViolation S T first valuation
+  pub name_is : name ≡ obligation_name first
+  pub lines_are : lines ≡ lines_of (free_names S T first) (free_values S T first valuation)
+
+-- the text of the design is accepted, and that of the table by no table that fits it
+pub record IsTableRefused (source table : List ℕ) : Type 0 where
+  pub S : SourceTree
+  pub design : Accepts source S
+  pub none : (T : TableTree) → AcceptsTable S table T → ⊥
+
+-- what the two texts of `decide` lead to. Want of memory may come at any time
+abbrev pub IsDecided : List ℕ → List ℕ → Outcome → Type 0
+IsDecided source table (accepted obliged inside) = IsYes source table obliged inside
+IsDecided source table (failed name lines) = IsNo source table name lines
+IsDecided source table source_not_built = (S : SourceTree) → Accepts source S → ⊥
+IsDecided source table table_not_built = IsTableRefused source table
+IsDecided source table no_memory = Unit {0}
+IsDecided source table wrong_words = ⊥
+IsDecided source table (unread word) = ⊥
+IsDecided source table (too_long word) = ⊥
+
+-- both texts were asked for, and this is what they lead to
+pub record IsAnswer (words : List (List ℕ)) (told : Option Files) (outcome : Outcome) : Type 0 where
   pub source : List ℕ
   pub table : List ℕ
-  pub decide : Decide words source table
-  pub turn : (word ≡ source) ⊎ ((word ≡ table) × IsText told source)
+  pub asked : Asked words told source table
+  pub decided : IsDecided source table outcome
 
 -- when each outcome comes, over the files that the store tells at the call, and its counts of failed
 -- reads before and after it. Want of memory may come at any time
 abbrev pub Due : List (List ℕ) → Option Files → Counts → Counts → Outcome → Type 0
-Due words told before now (accepted obligations classes) = Asked words told
-Due words told before now (failed obligation valuation) = Asked words told
 Due words told before now wrong_words = (source table : List ℕ) → Decide words source table → ⊥
-Due words told before now source_not_built = Asked words told
-Due words told before now table_not_built = Asked words told
 Due words told before now (unread word) = AskedFor words told word × RoseAt word before now
 Due words told before now (too_long word) = AskedFor words told word × IsTooLong told word
 Due words told before now no_memory = Unit {0}
+Due words told before now (accepted obliged inside) = IsAnswer words told (accepted obliged inside)
+Due words told before now (failed name lines) = IsAnswer words told (failed name lines)
+Due words told before now source_not_built = IsAnswer words told source_not_built
+Due words told before now table_not_built = IsAnswer words told table_not_built
 
 -- an outcome that names a word, or want of memory in its place
 abbrev pub IsWorded : Outcome → Outcome → Type 0
@@ -65,17 +132,6 @@ ReadText items told name before now (Err (Unread word)) = (string_bytes word ≡
 ReadText items told name before now (Err (TooLong word)) = (string_bytes word ≡ name) × IsTooLong told name × Same before now
 ReadText items told name before now (Err NoMemory) = Unit {0}
 ReadText items told name before now (Err _) = ⊥
-
--- one of the outcomes that the two texts lead to
-abbrev pub IsDecided : Outcome → Type 0
-IsDecided (accepted obligations classes) = Unit {0}
-IsDecided (failed obligation valuation) = Unit {0}
-IsDecided source_not_built = Unit {0}
-IsDecided table_not_built = Unit {0}
-IsDecided no_memory = Unit {0}
-IsDecided wrong_words = ⊥
-IsDecided (unread word) = ⊥
-IsDecided (too_long word) = ⊥
 
 -- how an outcome ends: its text is printed whole, and the status is its own; the sink's count of
 -- faults rose, a front of its text is printed, and the status is WriteFault, but that Memory stays;
@@ -105,3 +161,17 @@ pub record Served (words : List (List ℕ)) (told : Option Files) (before now : 
   pub outcome : Outcome
   pub due : Due words told before now outcome
   pub ends : Ends outcome sink.old sink.new sink.before sink.now ended
+
+-- the headline: the bytes that the store told spell a design and a table that fits it, every reset
+-- cycle leaves a state that the table starts from, and every run shows at each boundary what the table
+-- gives
+pub record IsHeadline (source table : List ℕ) : Type 0 where
+  pub S : SourceTree
+  pub T : TableTree
+  pub design : Accepts source S
+  pub fitting : AcceptsTable S table T
+  pub resets : Resets S T
+  pub commutes : Commutes S T
+
+abbrev pub Headline : List (List ℕ) → Option Files → Type 0
+Headline words told = (source : List ℕ) × ((table : List ℕ) × Asked words told source table × IsHeadline source table)

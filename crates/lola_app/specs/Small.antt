@@ -1,114 +1,124 @@
--- The small form: designs and tables of one-bit registers that `decide` takes so far.
-use Rattle.std.specs.Prelude.{◌≡◌, ◌≢◌, ◌⊎◌, ℕ, ◌≤◌, false, List, [], ◌∷◌, ◌++◌, length, map, Some, None}
+-- The small form of a table: what fits a design of one-bit ports and registers.
+use Rattle.std.specs.Prelude.{◌≡◌, ◌≢◌, ◌⊎◌, ℕ, ◌≤◌, Bool, true, false, nat_eq, nat_le, if◌then◌else◌, ◌&&◌, List, [], ◌∷◌, length, map, codes, Option, Some, None}
 use Rattle.std.specs.List.{AllByRecursion}
-use Rattle.lola_bits.specs.declared.op.Op.{Op}
-use Rattle.lola_bits.specs.declared.op.Op.TheVariants as op
-use Rattle.lola_tree.specs.declared.named.Count.TheVariants as count
 use Rattle.lola_tree.specs.declared.named.Ref.{Ref}
-use Rattle.lola_tree.specs.declared.named.Shape.{Shape}
-use Rattle.lola_tree.specs.declared.named.Shape.TheVariants as shape
-use Rattle.lola_tree.specs.declared.module.Way.TheVariants.{Inward, Outward, Both}
-use Rattle.lola_tree.specs.declared.module.Port.{Port}
-use Rattle.lola_tree.specs.declared.module.LocalKind.{LocalKind}
-use Rattle.lola_tree.specs.declared.module.LocalKind.TheVariants.{Reg, Var, Inst}
-use Rattle.lola_tree.specs.declared.module.Local.{Local}
-use Rattle.lola_tree.specs.Tree.{Tree, number, whole, bit, slice, index, concat, negation, binary, choice, StmtTree, assignment, call, pad, ModuleTree, SourceTree}
-use Rattle.lola_tree.specs.Cycle.{IsIn, IsRegisterOf, IsInputOf}
-use Rattle.lola_app.specs.Table.{ClassTree, TableTree}
+use Rattle.lola_tree.specs.Tree.{Tree, number, whole, bit, slice, index, concat, negation, binary, choice, ModuleTree}
+use Rattle.lola_tree.specs.Cycle.{IsIn}
+use Rattle.lola_tree.specs.Signals.{input_names, register_names}
+use Rattle.lola_elab.specs.Small.{IsBit, IsSmallExpr, AreDistinct}
+use Rattle.tab_tree.specs.Table.{StateTree, SetTree, PhaseTree, ClassTree, TableTree}
+use Rattle.tab_tree.specs.Step.{loads_first}
 
--- a vector of one bit
-abbrev pub IsBit : Shape → Type 0
-IsBit (shape.Vector (count.Fixed width at)) = width ≡ 1
-IsBit (shape.Vector (count.Const name)) = ⊥
-IsBit (shape.Array items width) = ⊥
+-- what a table sees of a design: the name of its root, its inputs but the clock, and its registers
+pub record Interface : Type 0 where
+  pub root : List ℕ
+  pub inputs : List (List ℕ)
+  pub registers : List (List ℕ)
 
--- `& | ^`
-abbrev pub IsLogic : Op → Type 0
-IsLogic op.And = Unit {0}
-IsLogic op.Or = Unit {0}
-IsLogic op.Xor = Unit {0}
-IsLogic other = ⊥
+abbrev pub interface_of : ModuleTree → Interface
+interface_of m = record { root = m.name; inputs = input_names m; registers = register_names m.locals }
 
--- `~ & | ^`, the numbers 0 and 1 without a width, and names that may stand there
-abbrev pub IsSmallExpr : (Ref → Type 0) → Tree → Type 0
-IsSmallExpr Names (number n width at) = (n ≤ 1) × (width ≡ None)
-IsSmallExpr Names (whole of) = Names of
-IsSmallExpr Names (negation e at) = IsSmallExpr Names e
-IsSmallExpr Names (binary o a b at) = IsLogic o × IsSmallExpr Names a × IsSmallExpr Names b
-IsSmallExpr Names (choice test first second at) = ⊥
-IsSmallExpr Names (bit of place at) = ⊥
-IsSmallExpr Names (slice of high low at) = ⊥
-IsSmallExpr Names (index of place at) = ⊥
-IsSmallExpr Names (concat parts at) = ⊥
+-- `@` and the name of a register
+abbrev pub IsSourceRegister : List (List ℕ) → Ref → Type 0
+IsSourceRegister registers r = (r.source ≡ true) × ((name : List ℕ) × (r.path ≡ name ∷ []) × IsIn name registers)
 
--- a port of one bit, IN or OUT
-abbrev pub IsSmallPort : Port → Type 0
-IsSmallPort p = (p.way ≢ Both) × IsBit p.shape
+-- an expression is one bare register
+abbrev pub ShowsRegister : List (List ℕ) → Tree → Type 0
+ShowsRegister registers (whole of) = IsSourceRegister registers of
+ShowsRegister registers (number n width at) = ⊥
+ShowsRegister registers (negation e at) = ⊥
+ShowsRegister registers (binary o a b at) = ⊥
+ShowsRegister registers (choice test first second at) = ⊥
+ShowsRegister registers (bit of place at) = ⊥
+ShowsRegister registers (slice of high low at) = ⊥
+ShowsRegister registers (index of place at) = ⊥
+ShowsRegister registers (concat parts at) = ⊥
 
--- a register of one bit
-abbrev pub IsSmallKind : LocalKind → Type 0
-IsSmallKind (Reg clock type) = IsBit type
-IsSmallKind (Var type) = ⊥
-IsSmallKind (Inst of) = ⊥
+-- the number 1 without a width
+abbrev pub IsOne : Tree → Type 0
+IsOne (number n width at) = (n ≡ 1) × (width ≡ None)
+IsOne (whole of) = ⊥
+IsOne (negation e at) = ⊥
+IsOne (binary o a b at) = ⊥
+IsOne (choice test first second at) = ⊥
+IsOne (bit of place at) = ⊥
+IsOne (slice of high low at) = ⊥
+IsOne (index of place at) = ⊥
+IsOne (concat parts at) = ⊥
 
--- an input or a register of the module
-abbrev pub IsReadable : ModuleTree → List ℕ → Type 0
-IsReadable m name = ((type : Shape) × IsInputOf m name type) ⊎ ((clock : List ℕ) × (type : Shape) × IsRegisterOf m name clock type)
+-- a byte is a decimal digit
+abbrev pub is_digit : ℕ → Bool
+is_digit b = nat_le 48 b && nat_le b 57
 
--- a bare name of one
-abbrev pub IsLeaf : ModuleTree → Ref → Type 0
-IsLeaf m r = (r.source ≡ false) × ((name : List ℕ) × (r.path ≡ name ∷ []) × IsReadable m name)
+abbrev pub are_digits : List ℕ → Bool
+are_digits [] = true
+are_digits (b ∷ bs) = is_digit b && are_digits bs
 
--- an OUT port or a register of the module
-abbrev pub IsTarget : ModuleTree → List ℕ → Type 0
-IsTarget m name =
-    ((p : Port) × IsIn p m.ports × (p.way ≡ Outward) × (name ≡ p.name)) ⊎ ((clock : List ℕ) × (type : Shape) × IsRegisterOf m name clock type)
+-- a name that means something in every table: `i`, `k`, and `d` or `t` with digits
+abbrev pub is_taken : List ℕ → Bool
+is_taken [] = false
+is_taken (b ∷ []) = if nat_eq b 105 then true else nat_eq b 107
+is_taken (b ∷ c ∷ cs) = (if nat_eq b 100 then true else nat_eq b 116) && (is_digit c && are_digits cs)
 
--- a whole assignment to a target, of an expression over inputs and registers
-abbrev pub IsSmallStmt : ModuleTree → StmtTree → Type 0
-IsSmallStmt m (assignment name None e at equals) = IsTarget m name × IsSmallExpr (IsLeaf m) e
-IsSmallStmt m (assignment name (Some place) e at equals) = ⊥
-IsSmallStmt m (call name args at) = ⊥
-IsSmallStmt m (pad io inner drive release at) = ⊥
+-- the names of the states
+abbrev pub state_names : TableTree → List (List ℕ)
+state_names T = map (λ (row : StateTree). row.name) T.states
 
--- what a statement assigns
-abbrev pub target_of : StmtTree → List ℕ
-target_of (assignment name place e at equals) = name
-target_of (call name args at) = name
-target_of (pad io inner drive release at) = []
+-- a name that a class may hold: a state, the word `i`, and the loaded word `d0` where phase 0 takes it
+abbrev pub IsClassName : TableTree → ClassTree → List ℕ → Type 0
+IsClassName T c name = IsIn name (state_names T) ⊎ (name ≡ codes "i") ⊎ ((name ≡ codes "d0") × (loads_first c.phases ≡ true))
 
--- no item comes twice
-abbrev pub AreDistinct : List (List ℕ) → Type 0
-AreDistinct [] = Unit {0}
-AreDistinct (x ∷ xs) = (IsIn x xs → ⊥) × AreDistinct xs
+abbrev pub IsInClass : TableTree → ClassTree → Ref → Type 0
+IsInClass T c r = (r.source ≡ false) × ((name : List ℕ) × (r.path ≡ name ∷ []) × IsClassName T c name)
 
--- the declared names
-abbrev pub names_of : ModuleTree → List (List ℕ)
-names_of m = map (λ (p : Port). p.name) m.ports ++ map (λ (l : Local). l.name) m.locals
+-- no name at all
+abbrev pub IsNoName : Ref → Type 0
+IsNoName r = ⊥
 
--- a module of one-bit ports and registers under one clock, each OUT port and register assigned once
-pub record IsSmallModule (m : ModuleTree) : Type 0 where
-  pub ends : m.ends.name ≡ m.name
-  pub no_consts : m.consts ≡ []
-  pub ports : AllByRecursion IsSmallPort m.ports
-  pub registers : AllByRecursion (λ (l : Local). IsSmallKind l.kind) m.locals
-  pub distinct : AreDistinct (names_of m)
-  pub one_clock : (a b c d : List ℕ) (t u : Shape) → IsRegisterOf m a c t → IsRegisterOf m b d u → c ≡ d
-  pub clock_port : (name clock : List ℕ) (type : Shape) → IsRegisterOf m name clock type →
-      (p : Port) × IsIn p m.ports × (p.way ≡ Inward) × (clock ≡ p.name)
-  pub statements : AllByRecursion (IsSmallStmt m) m.body
-  pub once : AreDistinct (map target_of m.body)
-  pub each : (name : List ℕ) → IsTarget m name → IsIn name (map target_of m.body)
+-- a row that sets one of these states to such an expression
+abbrev pub IsSmallRow : List (List ℕ) → (Ref → Type 0) → SetTree → Type 0
+IsSmallRow states Names row = IsIn row.name states × IsSmallExpr Names row.value
 
--- a design of one such module
-pub record IsSmallSource (S : SourceTree) : Type 0 where
-  pub root : ModuleTree
-  pub only : S.modules ≡ root ∷ []
-  pub small : IsSmallModule root
+-- rows that set states so, each state at most once
+pub record AreSmallRows (states : List (List ℕ)) (Names : Ref → Type 0) (rows : List SetTree) : Type 0 where
+  pub distinct : AreDistinct (map (λ (row : SetTree). row.name) rows)
+  pub each : AllByRecursion (IsSmallRow states Names) rows
 
--- one phase in each class
-abbrev pub HasOnePhase : ClassTree → Type 0
-HasOnePhase c = length c.phases ≡ 1
+-- a class with a pattern of one place and one phase, which may load where there is a role for it
+pub record IsSmallClass (T : TableTree) (c : ClassTree) : Type 0 where
+  pub one_place : length c.pattern ≡ 1
+  pub phase : PhaseTree
+  pub one_phase : c.phases ≡ phase ∷ []
+  pub linked : IsOne phase.link
+  pub loads : phase.loads ≡ true → (port : List ℕ) × (T.loaded ≡ Some port)
+  pub sets : AreSmallRows (state_names T) (IsInClass T c) c.sets
 
-pub record IsSmallTable (T : TableTree) : Type 0 where
-  pub one_phase : AllByRecursion HasOnePhase T.classes
+-- a state of one bit that shows one register, under a name that a table may declare
+pub record IsSmallState (registers : List (List ℕ)) (row : StateTree) : Type 0 where
+  pub declarable : is_taken row.name ≡ false
+  pub one_bit : IsBit row.shape
+  pub shows : ShowsRegister registers row.shown
+
+-- at most 64 states, each under a name of its own
+pub record AreSmallStates (registers : List (List ℕ)) (rows : List StateTree) : Type 0 where
+  pub few : length rows ≤ 64
+  pub distinct : AreDistinct (map (λ (row : StateTree). row.name) rows)
+  pub each : AllByRecursion (IsSmallState registers) rows
+
+-- the ports of the roles are inputs: RESET's, and LOADED's where there is that role, which is another
+pub record AreSmallRoles (inputs : List (List ℕ)) (T : TableTree) : Type 0 where
+  pub reset : IsIn T.reset.port inputs
+  pub loaded : (port : List ℕ) → T.loaded ≡ Some port → IsIn port inputs × (port ≢ T.reset.port)
+
+-- a table for a design with this interface, with one class
+pub record IsSmallTable (face : Interface) (T : TableTree) : Type 0 where
+  pub ends : T.ends ≡ T.name
+  pub root : T.root ≡ face.root
+  pub roles : AreSmallRoles face.inputs T
+  pub states : AreSmallStates face.registers T.states
+  pub invariant : IsSmallExpr (IsSourceRegister face.registers) T.invariant
+  pub boundary : IsSmallExpr (IsSourceRegister face.registers) T.boundary
+  pub starts : AreSmallRows (state_names T) IsNoName T.starts
+  pub class : ClassTree
+  pub one_class : T.classes ≡ class ∷ []
+  pub small : IsSmallClass T class

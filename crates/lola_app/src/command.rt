@@ -1,7 +1,7 @@
 ghost use Rattle.std.specs.Prelude.{◌≡◌, [], ◌∷◌, map, string_bytes, codes};
 ghost use Rattle.lola_port.specs.Outside.{Same};
 ghost use Rattle.lola_app.specs.Reply.{outcome_of, unread, too_long};
-ghost use Rattle.lola_app.specs.Serve.{Due, Served, ReadText, Ends, IsDecided, IsWorded, FaultStatus};
+ghost use Rattle.lola_app.specs.Serve.{Due, Served, Headline, ReadText, Ends, IsWorded, FaultStatus};
 
 use crate::printer::write_text;
 use crate::reply::{Reply, render, reply_status};
@@ -24,6 +24,7 @@ pub fn serve<F: Store, O: Sink>(
     seats: &mut Vec<Seat>,
 ) -> Status
     ensures served { Served (map string_bytes words.now) (F.list files.old) (F.failed_reads files.old) (F.failed_reads files.new) (record { old = O.bytes out.old; new = O.bytes out.new; before = O.faults out.old; now = O.faults out.new }) result }
+    ensures headline { result ≡ Status.Ok → Headline (map string_bytes words.now) (F.list files.old) }
     ensures files { F.list files.new ≡ F.list files.old }
     ensures writes { Same (F.failed_writes files.old) (F.failed_writes files.new) }
     ensures seats { seats.new.items ≡ seats.old.items }

@@ -1,15 +1,14 @@
-ghost use Rattle.std.specs.Prelude.{◌≡◌, ◌≤◌, ◌<◌, ◌^◌, ◌++◌, false, map, IfOk, OnOk, MatchOption, slice_get, slice_index_or};
-ghost use Rattle.lola_app.specs.declared.logic.Logic.{Logic};
+ghost use Rattle.std.specs.Prelude.{◌≡◌, ◌≤◌, ◌<◌, ◌^◌, ◌+◌, ◌++◌, length, false, map, IfOk, OnOk, MatchOption, slice_get, slice_index_or};
+ghost use Rattle.lola_elab.specs.declared.logic.Logic.{Logic};
 ghost use Rattle.lola_app.specs.Trial.{with_reset, next_leaves, next_leaf, place_fits, start_passes, state_passes, reset_passes, end_passes, premises, passes, free_count};
 ghost use Rattle.lola_app.specs.Valuations.{bits_of, Always, IsLeast};
 ghost use Rattle.lola_app.specs.Deciding.{IsDecidedBy};
-ghost use Rattle.lola_app.specs.Logic.{logic_value};
+ghost use Rattle.lola_elab.specs.Logic.{logic_value};
 ghost use Rattle.std.specs.Option.{option_copied};
 
 use crate::claim::{Claim, Start, State};
-use crate::logic::{Logic, eval};
 use crate::obligation::{Goal, Obligation, Which};
-use crate::table::Place;
+use lola_elab::{Logic, eval};
 use std::alloc::{AllocError, Global};
 
 /// Whether all obligations hold at every valuation, or the number of the first that fails with its
@@ -22,6 +21,7 @@ pub enum Decided {
 
 /// Tries all valuations of each obligation in turn.
 pub fn decide(alloc: Global, claim: &Claim, list: &[Obligation]) -> Result<Decided, AllocError>
+    requires few { length claim.now.design.inputs.items + length claim.now.design.registers.items ≤ 16 }
     ensures { IfOk result (λ decided. IsDecidedBy claim.now list.now decided) }
 {
     for (number, obligation) in list.iter().enumerate() {
@@ -39,6 +39,7 @@ fn first_failing(
     claim: &Claim,
     which: Which,
 ) -> Result<Option<Vec<bool>>, AllocError>
+    requires few { length claim.now.design.inputs.items + length claim.now.design.registers.items ≤ 16 }
     ensures { IfOk result (λ found. MatchOption found (Always (passes claim.now which) (free_count claim.now which)) (λ bits. IsLeast (passes claim.now which) (free_count claim.now which) bits.items)) }
 {
     let count = free_bits(claim, which);
@@ -53,6 +54,7 @@ fn first_failing(
 
 /// How many bits an obligation leaves free.
 fn free_bits(claim: &Claim, which: Which) -> u32
+    requires few { length claim.now.design.inputs.items + length claim.now.design.registers.items ≤ 16 }
     ensures few { result ≤ 16 }
     ensures count { result ≡ free_count claim.now which }
 {
@@ -64,7 +66,7 @@ fn free_bits(claim: &Claim, which: Which) -> u32
                 .inputs
                 .len()
                 .saturating_add(claim.design.registers.len());
-            leaves.saturating_sub(1).min(16) as u32
+            leaves.saturating_sub(1) as u32
         }
     }
 }
@@ -116,13 +118,15 @@ fn first_bit(bits: &[bool]) -> bool
 }
 
 /// Whether a pattern of one place fits a word.
-fn fits(pattern: Place, word: bool) -> bool
+fn fits(pattern: u8, word: bool) -> bool
     ensures { result ≡ place_fits pattern word }
 {
-    match pattern {
-        Place::Any => true,
-        Place::Zero => !word,
-        Place::One => word,
+    if pattern == b'-' {
+        true
+    } else if word {
+        pattern == b'1'
+    } else {
+        pattern == b'0'
     }
 }
 

@@ -9,17 +9,21 @@
 
 // designs and tables of the small form
 mod claim;
-mod design;
-mod logic;
-mod scope;
-mod table;
-mod table_reader;
+mod classes;
+mod fault;
+mod meaning;
+mod names;
+mod roles;
+mod rows;
+mod scopes;
+mod states;
 
 // obligations, and deciding them
 mod decide;
 mod laws;
 mod obligation;
 mod texts;
+mod trial;
 
 // commands
 mod command;

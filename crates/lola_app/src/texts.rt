@@ -1,24 +1,32 @@
-ghost use Rattle.std.specs.Prelude.{◌≤◌, length, IfOk};
+ghost use Rattle.std.specs.Prelude.{◌≡◌, ◌+◌, ◌≤◌, length, List, ℕ, IfOk};
+ghost use Rattle.lola_scan.specs.declared.token.Token.{Token as Scanned};
+ghost use Rattle.lola_scan.specs.Tokens.{Spells};
 ghost use Rattle.lola_parse.specs.Symbols.{AreIn};
+ghost use Rattle.lola_tree.specs.Tree.{SourceTree};
+ghost use Rattle.tab_tree.specs.Table.{TableTree};
+ghost use Rattle.lola_app.specs.Accepts.{Accepts, IsSpelled};
+ghost use Rattle.lola_app.specs.Claiming.{face_of};
+ghost use Rattle.lola_app.specs.Made.{IsDesignOf, IsTableOf};
 ghost use Rattle.lola_app.specs.Reply.{outcome_of};
 ghost use Rattle.lola_app.specs.Serve.{IsDecided, text_limit};
+ghost use Rattle.lola_app.specs.Small.{IsSmallTable};
 
 use crate::claim::{Claim, fit};
-use crate::decide::{Decided, decide};
-use crate::design::{Design, read_design};
-use crate::obligation::{Obligation, Which, obligations};
-use crate::reply::{NamedBit, Reply};
-use crate::scope::ReadError;
-use crate::table_reader::read_table;
-use lola_parse::{Cursor, Language, ParseError, parse, tokens_lie_within};
-use lola_scan::{ScanError, Token, scan};
-use std::alloc::{AllocError, Global};
+use crate::fault::ReadError;
+use crate::laws::headline;
+use crate::reply::Reply;
+use crate::trial::try_claim;
+use lola_elab::{Design, one_cycle, read_design};
+use lola_parse::{one_tree, parse, tokens_lie_within};
+use lola_scan::{Token, one_reading, scan};
+use std::alloc::Global;
+use tab_read::{one_table, read_table};
 
 /// What `decide` comes to for the text of a design and that of a table.
 pub fn decide_texts(alloc: Global, source: &[u8], table: &[u8]) -> Reply
     requires source { length source.now ≤ text_limit }
     requires table { length table.now ≤ text_limit }
-    ensures { IsDecided (outcome_of result) }
+    ensures { IsDecided source.now table.now (outcome_of result) }
 {
     let design = match source_design(alloc, source) {
         Ok(design) => design,
@@ -30,7 +38,9 @@ pub fn decide_texts(alloc: Global, source: &[u8], table: &[u8]) -> Reply
         Err(ReadError::NotBuilt) => return Reply::TableNotBuilt,
         Err(ReadError::Memory) => return Reply::NoMemory,
     };
-    match decide_claim(alloc, &claim) {
+    one_cycle();
+    headline();
+    match try_claim(alloc, &claim) {
         Ok(reply) => reply,
         Err(_) => Reply::NoMemory,
     }
@@ -39,120 +49,57 @@ pub fn decide_texts(alloc: Global, source: &[u8], table: &[u8]) -> Reply
 /// The one-bit design that a text spells.
 fn source_design(alloc: Global, text: &[u8]) -> Result<Design, ReadError>
     requires { length text.now ≤ text_limit }
+    ensures ok { IfOk result (λ design. IsDesignOf text.now design) }
+    ensures none { result ≡ Err ReadError.NotBuilt → (S : SourceTree) → Accepts text.now S → ⊥ }
 {
-    let tokens = text_tokens(alloc, text)?;
-    match parse(alloc, text, tokens.as_slice()) {
-        Ok(source) => read_design(alloc, &source),
-        Err(ParseError::Memory) => Err(ReadError::Memory),
-        Err(_) => Err(ReadError::NotBuilt),
+    one_reading();
+    one_tree();
+    let tokens = match text_tokens(alloc, text) {
+        Ok(tokens) => tokens,
+        Err(fault) => return Err(fault),
+    };
+    let source = match parse(alloc, text, tokens.as_slice()) {
+        Ok(source) => source,
+        Err(fault) => return Err(ReadError::from(fault)),
+    };
+    match read_design(alloc, &source) {
+        Ok(design) => Ok(design),
+        Err(fault) => Err(ReadError::from(fault)),
     }
 }
 
 /// The claim about a design that a text spells.
 fn table_claim(alloc: Global, text: &[u8], design: Design) -> Result<Claim, ReadError>
-    requires { length text.now ≤ text_limit }
+    requires short { length text.now ≤ text_limit }
+    requires few { length design.inputs.items + length design.registers.items ≤ 16 }
+    ensures ok { IfOk result (λ claim. IsTableOf text.now claim) }
+    ensures design { IfOk result (λ claim. claim.design ≡ design) }
+    ensures none { result ≡ Err ReadError.NotBuilt → (T : TableTree) → IsSpelled text.now T → IsSmallTable (face_of design) T → ⊥ }
 {
-    let tokens = text_tokens(alloc, text)?;
-    let table = read_table(alloc, Cursor::new(Language::Table, text, tokens.as_slice()))?;
+    one_reading();
+    one_table();
+    let tokens = match text_tokens(alloc, text) {
+        Ok(tokens) => tokens,
+        Err(fault) => return Err(fault),
+    };
+    let table = match read_table(alloc, text, tokens.as_slice()) {
+        Ok(table) => table,
+        Err(fault) => return Err(ReadError::from(fault)),
+    };
     fit(alloc, &table, design)
 }
 
 /// The tokens of a text.
 fn text_tokens(alloc: Global, text: &[u8]) -> Result<Vec<Token>, ReadError>
     requires { length text.now ≤ text_limit }
-    ensures { IfOk result (λ tokens. AreIn text.now tokens.items) }
+    ensures spells { IfOk result (λ tokens. Spells 0 text.now tokens.items) }
+    ensures within { IfOk result (λ tokens. AreIn text.now tokens.items) }
+    ensures none { result ≡ Err ReadError.NotBuilt → (tokens : List Scanned) → Spells 0 text.now tokens → ⊥ }
 {
+    tokens_lie_within();
+    one_reading();
     match scan(alloc, text) {
-        Ok(tokens) => {
-            tokens_lie_within();
-            Ok(tokens)
-        }
-        Err(ScanError::Memory) => Err(ReadError::Memory),
-        Err(_) => Err(ReadError::NotBuilt),
+        Ok(tokens) => Ok(tokens),
+        Err(fault) => Err(ReadError::from(fault)),
     }
-}
-
-/// What deciding a claim comes to: all its obligations hold, or the first that fails with its least
-/// valuation.
-fn decide_claim(alloc: Global, claim: &Claim) -> Result<Reply, AllocError>
-    ensures { IfOk result (λ reply. IsDecided (outcome_of reply)) }
-{
-    let list = obligations(alloc, claim)?;
-    match decide(alloc, claim, list.as_slice())? {
-        Decided::All => Ok(Reply::Accepted {
-            obligations: list.len(),
-            classes: 1,
-        }),
-        Decided::Fails { number, bits } => failed_reply(
-            alloc,
-            claim,
-            list.as_slice(),
-            number,
-            bits.as_slice(),
-        ),
-    }
-}
-
-/// The reply that an obligation fails at a valuation.
-fn failed_reply(
-    alloc: Global,
-    claim: &Claim,
-    list: &[Obligation],
-    number: usize,
-    bits: &[bool],
-) -> Result<Reply, AllocError>
-    ensures { IfOk result (λ reply. IsDecided (outcome_of reply)) }
-{
-    match list.get(number) {
-        Some(obligation) => Ok(Reply::Failed {
-            obligation: obligation.name.clone()?,
-            bits: named_bits(alloc, claim, obligation.which, bits)?,
-        }),
-        None => Ok(Reply::NoMemory),
-    }
-}
-
-/// The free bits of an obligation under the names that a trace gives them.
-fn named_bits(
-    alloc: Global,
-    claim: &Claim,
-    which: Which,
-    bits: &[bool],
-) -> Result<Vec<NamedBit>, AllocError> {
-    let mut named = Vec::new(alloc);
-    match which {
-        Which::Cover => {
-            for bit in bits {
-                named.push(NamedBit {
-                    name: String::from_str(alloc, "i")?,
-                    value: *bit,
-                })?;
-            }
-        }
-        _ => {
-            let names = free_names(alloc, claim)?;
-            for (name, bit) in names.iter().zip(bits) {
-                let name = name.as_str();
-                named.push(NamedBit {
-                    name: format!(in alloc; "@{name}")?,
-                    value: *bit,
-                })?;
-            }
-        }
-    }
-    Ok(named)
-}
-
-/// The names of the leaves but RESET, in order.
-fn free_names(alloc: Global, claim: &Claim) -> Result<Vec<String>, AllocError> {
-    let mut names = Vec::new(alloc);
-    for (number, name) in claim.design.inputs.iter().enumerate() {
-        if number != claim.reset {
-            names.push(name.clone()?)?;
-        }
-    }
-    for name in &claim.design.registers {
-        names.push(name.clone()?)?;
-    }
-    Ok(names)
 }

@@ -27,7 +27,7 @@ names (item ∷ more) n next e = record { is_word = n.is_word; splits = cc }
 
 pub words : (all : List Item) (n : Next) → IsNextOf all n → n.is_word ≡ true → Words n.spelled.now all n.rest
 words [] n next e = absurd (let p : false ≡ true = sym next.1 ∙ e in cc)
-words (item ∷ more) n next e = record { symbol = n.symbol; at = n.at; splits = cc }
+words (item ∷ more) n next e = record { symbol = n.symbol; at = n.at; no_number = next.2 e; splits = cc }
 
 -- a name that was read is a count of a design
 pub counted_name : (l : Language) (copy name : List ℕ) (at : ℕ) (all rest : List Item) → l ≡ Design → copy ≡ name → Names name at all rest →

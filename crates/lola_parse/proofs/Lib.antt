@@ -1,7 +1,16 @@
 pub mod Designs
 pub mod Expressions
+pub mod Follow
 pub mod Fronts
 pub mod Lie
+pub mod Modules
+pub mod OneTree
 pub mod Parts
+pub mod Refer
+pub mod Shaped
+pub mod Statements
+pub mod Steps
 pub mod Suffix
 pub mod Symbols
+pub mod Unique
+pub mod Whole

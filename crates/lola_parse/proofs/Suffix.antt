@@ -33,19 +33,19 @@ past_name h = record { count = 1; is = rw h.splits refl }
 past_word : {word : List ℕ} {all rest : List Item} → Words word all rest → Ends all rest
 past_word h = record { count = 1; is = rw h.splits refl }
 
-counted_ends : {l : Language} {all rest : List Item} {c : Count} → Counted l all c rest → Ends all rest
+pub counted_ends : {l : Language} {all rest : List Item} {c : Count} → Counted l all c rest → Ends all rest
 counted_ends (fixed value at stands is) = past stands
 counted_ends (constant name at design name_read is) = past_name name_read
 
-path_ends : {before path : List (List ℕ)} {all rest : List Item} → Path before all path rest → Ends all rest
+pub path_ends : {before path : List (List ℕ)} {all rest : List Item} → Path before all path rest → Ends all rest
 path_ends (no_word is none) = itself _ _ none
 path_ends (one_word dot behind stands word more) = past stands then past_word word then path_ends more
 
-reference_ends : {l : Language} {all rest : List Item} {r : Ref} → Reference l all r rest → Ends all rest
+pub reference_ends : {l : Language} {all rest : List Item} {r : Ref} → Reference l all r rest → Ends all rest
 reference_ends (plain name at read is) = past_name read
 reference_ends (source path at first behind table stands word more is) = past stands then past_word word then path_ends more
 
-times_ends : {l : Language} {at : ℕ} {all rest : List Item} {c : Count} → Times l at all c rest → Ends all rest
+pub times_ends : {l : Language} {at : ℕ} {all rest : List Item} {c : Count} → Times l at all c rest → Ends all rest
 times_ends (once is none) = itself _ _ none
 times_ends (repeated behind stands read) = past stands then counted_ends read
 
@@ -55,25 +55,25 @@ mutual
   expression_ends (chosen arrow first_at colon second_at test a first c second is) =
       rel_ends test then past a then expression_ends first then past c then expression_ends second
 
-  rel_ends : {l : Language} {all rest : List Item} {e : Tree} → Rel l all e rest → Ends all rest
+  pub rel_ends : {l : Language} {all rest : List Item} {e : Tree} → Rel l all e rest → Ends all rest
   rel_ends (one_sum s) = sum_ends s
   rel_ends (related sign behind a stands op b is) = sum_ends a then past stands then sum_ends b
 
-  sum_ends : {l : Language} {all rest : List Item} {e : Tree} → Sum l all e rest → Ends all rest
+  pub sum_ends : {l : Language} {all rest : List Item} {e : Tree} → Sum l all e rest → Ends all rest
   sum_ends (sum behind first more) = term_ends first then terms_ends more
 
-  terms_ends : {l : Language} {all rest : List Item} {a e : Tree} → Terms l a all e rest → Ends all rest
+  pub terms_ends : {l : Language} {all rest : List Item} {a e : Tree} → Terms l a all e rest → Ends all rest
   terms_ends (no_term is none) = itself _ _ none
   terms_ends (one_term first behind stands op b more) = past stands then term_ends b then terms_ends more
 
-  term_ends : {l : Language} {all rest : List Item} {e : Tree} → Term l all e rest → Ends all rest
+  pub term_ends : {l : Language} {all rest : List Item} {e : Tree} → Term l all e rest → Ends all rest
   term_ends (term behind first more) = factor_ends first then factors_ends more
 
-  factors_ends : {l : Language} {all rest : List Item} {a e : Tree} → Factors l a all e rest → Ends all rest
+  pub factors_ends : {l : Language} {all rest : List Item} {a e : Tree} → Factors l a all e rest → Ends all rest
   factors_ends (no_factor is none) = itself _ _ none
   factors_ends (one_factor first behind stands b more) = past stands then factor_ends b then factors_ends more
 
-  factor_ends : {l : Language} {all rest : List Item} {e : Tree} → Factor l all e rest → Ends all rest
+  pub factor_ends : {l : Language} {all rest : List Item} {e : Tree} → Factor l all e rest → Ends all rest
   factor_ends (negated behind stands arg is) = past stands then factor_ends arg
   factor_ends (numbered stands is) = past stands
   factor_ends (named of is) = reference_ends of
@@ -86,15 +86,15 @@ mutual
       past stands then past begin then expression_ends value then past c then expression_ends by then past end
   factor_ends (nested first close stands inner end) = past stands then expression_ends inner then past end
 
-  part_ends : {l : Language} {all rest : List Item} {e : Tree} {times : Count} → OnePart l all e times rest → Ends all rest
+  pub part_ends : {l : Language} {all rest : List Item} {e : Tree} {times : Count} → OnePart l all e times rest → Ends all rest
   part_ends (part behind value times) = expression_ends value then times_ends times
 
-  parts_ends : {l : Language} {all rest : List Item} {before parts : Parts} → MoreParts l before all parts rest → Ends all rest
+  pub parts_ends : {l : Language} {all rest : List Item} {before parts : Parts} → MoreParts l before all parts rest → Ends all rest
   parts_ends (no_more is none) = itself _ _ none
   parts_ends (one_more first behind stands value more) = past stands then part_ends value then parts_ends more
 
 -- an end is known by its length
-end_is : (all rest : List Item) → Ends all rest → rest ≡ drop (length all - length rest) all
+pub end_is : (all rest : List Item) → Ends all rest → rest ≡ drop (length all - length rest) all
 end_is all rest h =
     elim (cases_lt (length all) h.count) [
       | inl over ↦
@@ -111,7 +111,7 @@ items_drop l text zero tokens = refl
 items_drop l text (suc n) [] = refl
 items_drop l text (suc n) (token ∷ more) = items_drop l text n more
 
-items_long : (l : Language) (text : List ℕ) (tokens : List Token) → length (items_of l text tokens) ≡ length tokens
+pub items_long : (l : Language) (text : List ℕ) (tokens : List Token) → length (items_of l text tokens) ≡ length tokens
 items_long l text [] = refl
 items_long l text (token ∷ more) = ap suc (items_long l text more)
 

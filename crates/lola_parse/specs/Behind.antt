@@ -1,9 +1,9 @@
 -- What stands behind the first tokens of some rules, where a call of its own reads it.
-use Rattle.std.specs.Prelude.{◌≡◌, ℕ, List, [], ◌∷◌, Option, Some}
+use Rattle.std.specs.Prelude.{◌≡◌, ℕ, List, [], ◌∷◌, Option, Some, None}
 use Rattle.lola_bits.specs.declared.op.Op.{Op}
 use Rattle.lola_tree.specs.declared.named.Count.{Count}
 use Rattle.lola_tree.specs.declared.named.Ref.{Ref}
-use Rattle.lola_tree.specs.Tree.{Tree, bit, slice, index, concat, negation, binary, choice, Parts, no_part, one_part, ActualTree, StmtTree, assignment, call, pad}
+use Rattle.lola_tree.specs.Tree.{Tree, whole, bit, slice, index, concat, negation, binary, choice, Parts, no_part, one_part, ActualTree, StmtTree, assignment, call, pad}
 use Rattle.lola_parse.specs.declared.symbol.Symbol.TheVariants as sym
 use Rattle.lola_parse.specs.declared.symbol.Language.{Language}
 use Rattle.lola_parse.specs.declared.symbol.Language.TheVariants.{Design}
@@ -12,9 +12,13 @@ use Rattle.lola_tree.specs.declared.named.Shape.{Shape}
 use Rattle.lola_tree.specs.declared.named.Shape.TheVariants as shape
 use Rattle.lola_tree.specs.declared.module.Way.{Way}
 use Rattle.lola_tree.specs.declared.module.Port.{Port}
+use Rattle.lola_tree.specs.declared.module.Const.{Const}
+use Rattle.lola_tree.specs.declared.module.Local.{Local}
+use Rattle.lola_parse.specs.declared.module.Declared.{Declared}
+use Rattle.lola_tree.specs.declared.named.Count.TheVariants as count
 use Rattle.lola_parse.specs.Symbols.{Item}
-use Rattle.lola_parse.specs.Design.{Outermost, Argument, MoreArguments, Statement, Shaped, Group, MoreGroups}
-use Rattle.lola_parse.specs.Grammar.{Passes, Words, Counted, Path, Expression, Factor, OnePart, MoreParts, Stands, Names}
+use Rattle.lola_parse.specs.Design.{Outermost, Argument, MoreArguments, Statement, Shaped, Group, MoreGroups, Declarations}
+use Rattle.lola_parse.specs.Grammar.{Passes, Words, Counted, Path, Reference, Expression, Factor, OnePart, MoreParts, Stands, Names}
 
 -- word {"." word}, behind an "@"
 pub record PathBehind (all : List Item) (path : List (List ℕ)) (rest : List Item) : Type 0 where
@@ -49,6 +53,24 @@ pub record IndexBehind (l : Language) (of : Ref) (at : ℕ) (all : List Item) (e
   pub place_read : Expression l all place close
   pub close_passed : Passes sym.CloseBracket close rest
   pub tree_is : e ≡ index of place at
+
+-- count ":", with which a slice begins, behind its "["
+pub record SliceBegins (l : Language) (all : List Item) : Type 0 where
+  pub place : Count
+  pub colon : List Item
+  pub behind : List Item
+  pub counted : Counted l all place colon
+  pub passed : Passes sym.Colon colon behind
+
+-- ref ["." count | "[" count ":" count "]" | "[" expr "]"]
+pub data Referred (l : Language) (all : List Item) : Tree → List Item → Type 0 where
+  alone : {e : Tree} {rest : List Item} (of : Ref) → Reference l all of rest → e ≡ whole of → Referred l all e rest
+  with_bit : {e : Tree} {rest : List Item} {at : ℕ} (of : Ref) (dot behind : List Item) → Reference l all of dot → Stands sym.Dot at dot behind →
+      BitBehind l of at behind e rest → Referred l all e rest
+  with_slice : {e : Tree} {rest : List Item} {at : ℕ} (of : Ref) (bracket behind : List Item) → Reference l all of bracket →
+      Stands sym.OpenBracket at bracket behind → SliceBehind l of at behind e rest → Referred l all e rest
+  with_index : {e : Tree} {rest : List Item} {at : ℕ} (of : Ref) (bracket behind : List Item) → Reference l all of bracket →
+      Stands sym.OpenBracket at bracket behind → IndexBehind l of at behind e rest → Referred l all e rest
 
 -- factor, behind a "~"
 pub record NegationBehind (l : Language) (at : ℕ) (all : List Item) (e : Tree) (rest : List Item) : Type 0 where
@@ -184,3 +206,44 @@ pub record GroupsBehind (way : Way) (all : List Item) (ports : List Port) (rest 
   pub behind : List Item
   pub first_read : Group way [] all first behind
   pub more_read : MoreGroups way first behind ports rest
+
+-- a part, with how often it stands there
+abbrev pub PartRead : Language → List Item → Tree × Count → List Item → Type 0
+PartRead l all part rest = OnePart l all part.0 part.1 rest
+
+-- ("BIT" | "BYTE" | "WORD" | "[" count "]" "BIT"), behind the first count of a type and its "]"
+pub data ShapeEnd (number : Count) (all : List Item) : Shape → List Item → Type 0 where
+  of_bits : {t : Shape} {rest : List Item} {at : ℕ} → Stands sym.Bit at all rest → t ≡ shape.Vector number → ShapeEnd number all t rest
+  of_bytes : {t : Shape} {rest : List Item} {at : ℕ} → Stands sym.Byte at all rest → t ≡ shape.Array number (count.Fixed 8 at) → ShapeEnd number all t rest
+  of_words : {t : Shape} {rest : List Item} {at : ℕ} → Stands sym.Word at all rest → t ≡ shape.Array number (count.Fixed 32 at) → ShapeEnd number all t rest
+  of_vectors : {t : Shape} {rest : List Item} {at : ℕ} (behind : List Item) → Stands sym.OpenBracket at all behind → VectorsBehind number behind t rest →
+      ShapeEnd number all t rest
+
+-- count "]" ("BIT" | "BYTE" | "WORD" | "[" count "]" "BIT"), behind the first "[" of a type
+pub record CountedShape (all : List Item) (t : Shape) (rest : List Item) : Type 0 where
+  pub number : Count
+  pub close : List Item
+  pub behind : List Item
+  pub counted : Counted Design all number close
+  pub close_passed : Passes sym.CloseBracket close behind
+  pub ends : ShapeEnd number behind t rest
+
+-- ":=" expr | "[" expr "]" ":=" expr | "(" expr {"," expr} ")", behind the name that begins a statement
+pub data NamedStatement (name : List ℕ) (at : ℕ) (all : List Item) : StmtTree → List Item → Type 0 where
+  with_value : {t : StmtTree} {rest : List Item} {equals : ℕ} (behind : List Item) → Stands sym.Assign equals all behind →
+      AssignedBehind name None at equals behind t rest → NamedStatement name at all t rest
+  with_place : {t : StmtTree} {rest : List Item} {place_at : ℕ} (behind : List Item) → Stands sym.OpenBracket place_at all behind →
+      PlacedBehind name at place_at behind t rest → NamedStatement name at all t rest
+  with_arguments : {t : StmtTree} {rest : List Item} {open_at : ℕ} (behind : List Item) → Stands sym.OpenParen open_at all behind →
+      CalledBehind name at behind t rest → NamedStatement name at all t rest
+
+-- a name with its place
+abbrev pub NameRead : List Item → Named → List Item → Type 0
+NameRead all n rest = Names n.name n.at all rest
+
+-- the declarations of a module, and what the code holds of them
+abbrev pub DeclaredRead : List Item → List Const × List Local → List Item → Type 0
+DeclaredRead all declared rest = Declarations [] [] all declared.0 declared.1 rest
+
+abbrev pub declared_of : Declared → List Const × List Local
+declared_of d = (d.consts.items, d.locals.items)

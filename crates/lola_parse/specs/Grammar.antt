@@ -12,7 +12,7 @@ use Rattle.lola_parse.specs.declared.symbol.Symbol.{Symbol}
 use Rattle.lola_parse.specs.declared.symbol.Symbol.TheVariants as sym
 use Rattle.lola_parse.specs.declared.symbol.Language.{Language}
 use Rattle.lola_parse.specs.declared.symbol.Language.TheVariants.{Design, Table}
-use Rattle.lola_parse.specs.Symbols.{Item}
+use Rattle.lola_parse.specs.Symbols.{Item, is_number}
 
 -- a symbol stands at the front, at this place, and the rest behind it
 pub record Stands (symbol : Symbol) (at : ℕ) (all rest : List Item) : Type 0 where
@@ -29,10 +29,11 @@ pub record Names (name : List ℕ) (at : ℕ) (all rest : List Item) : Type 0 wh
   pub is_word : Bool
   pub splits : all ≡ record { symbol = sym.Name; is_word = is_word; spelled = name; at = at } ∷ rest
 
--- a word does, reserved or not, which is spelled so
+-- a word does, reserved or not, which is spelled so; a number is no word
 pub record Words (word : List ℕ) (all rest : List Item) : Type 0 where
   pub symbol : Symbol
   pub at : ℕ
+  pub no_number : is_number symbol ≡ false
   pub splits : all ≡ record { symbol = symbol; is_word = true; spelled = word; at = at } ∷ rest
 
 -- the place of what stands at the front

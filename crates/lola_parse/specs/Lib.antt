@@ -1,5 +1,7 @@
 pub mod Behind
 pub mod Design
 pub mod Grammar
+pub mod MayEnd
 pub mod Parts
+pub mod Read
 pub mod Symbols

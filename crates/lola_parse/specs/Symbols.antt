@@ -104,6 +104,11 @@ is_word_kind (kind.Number value width) = false
 is_word_kind kind.Pattern = false
 is_word_kind kind.Mark = false
 
+-- a number
+abbrev pub is_number : Symbol → Bool
+is_number (sym.Number value width) = true
+is_number other = false
+
 -- a token as the grammar reads it; reserved words are words too
 pub record Item : Type 0 where
   pub symbol : Symbol
@@ -137,9 +142,10 @@ abbrev pub AreIn : List ℕ → List Token → Type 0
 AreIn text [] = Unit {0}
 AreIn text (token ∷ more) = IsIn text token × AreIn text more
 
--- the item at the front of a list, field by field, and the rest; of an empty list the symbol is
--- Nothing, the place 0, and the rest is empty
+-- the item at the front of a list, field by field, and the rest; a word is no number. Of an empty list
+-- the symbol is Nothing, the place 0, and the rest is empty
 abbrev pub IsNext : List Item → Symbol → Bool → List ℕ → ℕ → List Item → Type 0
 IsNext [] symbol is_word spelled at rest = (symbol ≡ sym.Nothing) × (is_word ≡ false) × (at ≡ 0) × (rest ≡ [])
 IsNext (item ∷ more) symbol is_word spelled at rest =
-    (item ≡ record { symbol = symbol; is_word = is_word; spelled = spelled; at = at }) × (more ≡ rest)
+    (item ≡ record { symbol = symbol; is_word = is_word; spelled = spelled; at = at }) × (more ≡ rest) ×
+    (is_word ≡ true → is_number symbol ≡ false)

@@ -1,7 +1,8 @@
-ghost use Rattle.std.specs.Prelude.{◌≡◌, ◌≢◌, ℕ, List, length, ◌<◌, IfOk};
+ghost use Rattle.std.specs.Prelude.{◌≡◌, ◌≢◌, ℕ, List, length, ◌<◌, IfOk, IfErr};
 ghost use Rattle.std.specs.Str.{IsUtf8, IsAscii};
-ghost use Rattle.lola_parse.specs.Symbols.{text_of, IsIn, is_word_kind};
+ghost use Rattle.lola_parse.specs.Symbols.{Item, text_of, IsIn, is_word_kind};
 ghost use Rattle.lola_parse.specs.Grammar.{Passes, place_of};
+ghost use Rattle.lola_parse.specs.Read.{IsBehind};
 
 use crate::fault::Fault;
 use crate::symbol::{Language, Symbol, symbol_of};
@@ -63,7 +64,9 @@ impl<'a> Cursor<'a> {
     }
 
     /// The fault that no text of the grammar goes on with the token at the front.
-    pub fn fault(&self) -> Fault {
+    pub fn fault(&self) -> Fault
+        ensures { result ≡ Fault.Syntax (length self.now) }
+    {
         Fault::Syntax { left: self.left() }
     }
 
@@ -108,12 +111,15 @@ impl<'a> Cursor<'a> {
     }
 }
 
-/// What stands behind a symbol that must be at the front.
+/// What stands behind a symbol that must be at the front. Where it isn't, the fault is Syntax at the
+/// token that is.
 impl<'a> Cursor<'a> {
     /// Behind `MODULE`.
     pub fn behind_module(&self) -> Result<Cursor<'a>, Fault>
         ensures shorter { IfOk result (λ rest. length rest < length self.now) }
         ensures ok { IfOk result (λ rest. Passes Symbol.Module self.now rest) }
+        ensures whole { (rest : List Item) → Passes Symbol.Module self.now rest → IsBehind rest result }
+        ensures fails { IfErr result (λ fault. fault ≡ Fault.Syntax (length self.now)) }
     {
         let next = self.next();
         match next.symbol {
@@ -126,6 +132,8 @@ impl<'a> Cursor<'a> {
     pub fn behind_end(&self) -> Result<Cursor<'a>, Fault>
         ensures shorter { IfOk result (λ rest. length rest < length self.now) }
         ensures ok { IfOk result (λ rest. Passes Symbol.End self.now rest) }
+        ensures whole { (rest : List Item) → Passes Symbol.End self.now rest → IsBehind rest result }
+        ensures fails { IfErr result (λ fault. fault ≡ Fault.Syntax (length self.now)) }
     {
         let next = self.next();
         match next.symbol {
@@ -138,6 +146,8 @@ impl<'a> Cursor<'a> {
     pub fn behind_bit(&self) -> Result<Cursor<'a>, Fault>
         ensures shorter { IfOk result (λ rest. length rest < length self.now) }
         ensures ok { IfOk result (λ rest. Passes Symbol.Bit self.now rest) }
+        ensures whole { (rest : List Item) → Passes Symbol.Bit self.now rest → IsBehind rest result }
+        ensures fails { IfErr result (λ fault. fault ≡ Fault.Syntax (length self.now)) }
     {
         let next = self.next();
         match next.symbol {
@@ -150,6 +160,8 @@ impl<'a> Cursor<'a> {
     pub fn behind_open_paren(&self) -> Result<Cursor<'a>, Fault>
         ensures shorter { IfOk result (λ rest. length rest < length self.now) }
         ensures ok { IfOk result (λ rest. Passes Symbol.OpenParen self.now rest) }
+        ensures whole { (rest : List Item) → Passes Symbol.OpenParen self.now rest → IsBehind rest result }
+        ensures fails { IfErr result (λ fault. fault ≡ Fault.Syntax (length self.now)) }
     {
         let next = self.next();
         match next.symbol {
@@ -162,6 +174,8 @@ impl<'a> Cursor<'a> {
     pub fn behind_close_paren(&self) -> Result<Cursor<'a>, Fault>
         ensures shorter { IfOk result (λ rest. length rest < length self.now) }
         ensures ok { IfOk result (λ rest. Passes Symbol.CloseParen self.now rest) }
+        ensures whole { (rest : List Item) → Passes Symbol.CloseParen self.now rest → IsBehind rest result }
+        ensures fails { IfErr result (λ fault. fault ≡ Fault.Syntax (length self.now)) }
     {
         let next = self.next();
         match next.symbol {
@@ -174,6 +188,8 @@ impl<'a> Cursor<'a> {
     pub fn behind_close_bracket(&self) -> Result<Cursor<'a>, Fault>
         ensures shorter { IfOk result (λ rest. length rest < length self.now) }
         ensures ok { IfOk result (λ rest. Passes Symbol.CloseBracket self.now rest) }
+        ensures whole { (rest : List Item) → Passes Symbol.CloseBracket self.now rest → IsBehind rest result }
+        ensures fails { IfErr result (λ fault. fault ≡ Fault.Syntax (length self.now)) }
     {
         let next = self.next();
         match next.symbol {
@@ -186,6 +202,8 @@ impl<'a> Cursor<'a> {
     pub fn behind_close_brace(&self) -> Result<Cursor<'a>, Fault>
         ensures shorter { IfOk result (λ rest. length rest < length self.now) }
         ensures ok { IfOk result (λ rest. Passes Symbol.CloseBrace self.now rest) }
+        ensures whole { (rest : List Item) → Passes Symbol.CloseBrace self.now rest → IsBehind rest result }
+        ensures fails { IfErr result (λ fault. fault ≡ Fault.Syntax (length self.now)) }
     {
         let next = self.next();
         match next.symbol {
@@ -198,6 +216,8 @@ impl<'a> Cursor<'a> {
     pub fn behind_comma(&self) -> Result<Cursor<'a>, Fault>
         ensures shorter { IfOk result (λ rest. length rest < length self.now) }
         ensures ok { IfOk result (λ rest. Passes Symbol.Comma self.now rest) }
+        ensures whole { (rest : List Item) → Passes Symbol.Comma self.now rest → IsBehind rest result }
+        ensures fails { IfErr result (λ fault. fault ≡ Fault.Syntax (length self.now)) }
     {
         let next = self.next();
         match next.symbol {
@@ -210,6 +230,8 @@ impl<'a> Cursor<'a> {
     pub fn behind_semicolon(&self) -> Result<Cursor<'a>, Fault>
         ensures shorter { IfOk result (λ rest. length rest < length self.now) }
         ensures ok { IfOk result (λ rest. Passes Symbol.Semicolon self.now rest) }
+        ensures whole { (rest : List Item) → Passes Symbol.Semicolon self.now rest → IsBehind rest result }
+        ensures fails { IfErr result (λ fault. fault ≡ Fault.Syntax (length self.now)) }
     {
         let next = self.next();
         match next.symbol {
@@ -222,6 +244,8 @@ impl<'a> Cursor<'a> {
     pub fn behind_colon(&self) -> Result<Cursor<'a>, Fault>
         ensures shorter { IfOk result (λ rest. length rest < length self.now) }
         ensures ok { IfOk result (λ rest. Passes Symbol.Colon self.now rest) }
+        ensures whole { (rest : List Item) → Passes Symbol.Colon self.now rest → IsBehind rest result }
+        ensures fails { IfErr result (λ fault. fault ≡ Fault.Syntax (length self.now)) }
     {
         let next = self.next();
         match next.symbol {
@@ -234,6 +258,8 @@ impl<'a> Cursor<'a> {
     pub fn behind_assign(&self) -> Result<Cursor<'a>, Fault>
         ensures shorter { IfOk result (λ rest. length rest < length self.now) }
         ensures ok { IfOk result (λ rest. Passes Symbol.Assign self.now rest) }
+        ensures whole { (rest : List Item) → Passes Symbol.Assign self.now rest → IsBehind rest result }
+        ensures fails { IfErr result (λ fault. fault ≡ Fault.Syntax (length self.now)) }
     {
         let next = self.next();
         match next.symbol {
@@ -246,6 +272,8 @@ impl<'a> Cursor<'a> {
     pub fn behind_dot(&self) -> Result<Cursor<'a>, Fault>
         ensures shorter { IfOk result (λ rest. length rest < length self.now) }
         ensures ok { IfOk result (λ rest. Passes Symbol.Dot self.now rest) }
+        ensures whole { (rest : List Item) → Passes Symbol.Dot self.now rest → IsBehind rest result }
+        ensures fails { IfErr result (λ fault. fault ≡ Fault.Syntax (length self.now)) }
     {
         let next = self.next();
         match next.symbol {

@@ -1,9 +1,11 @@
 ghost use Rattle.std.specs.Prelude.{ℕ, ◌<◌, ◌≤◌, length, IfOk, ◌≡◌};
 ghost use Rattle.lola_tree.specs.Tree.{tree};
-ghost use Rattle.lola_parse.specs.Parts.{parts_tree};
+ghost use Rattle.lola_parse.specs.Parts.{part_tree, parts_tree};
 ghost use Rattle.lola_parse.specs.Grammar.{Expression, Rel, Sum, Terms, Term, Factors, Factor, OnePart, MoreParts, relation_of, adding_of};
 ghost use Rattle.lola_parse.specs.Design.{Outermost};
-ghost use Rattle.lola_parse.specs.Behind.{ChoiceBehind, NegationBehind, NestedBehind, ShiftBehind, ConcatBehind, IndexBehind};
+ghost use Rattle.lola_parse.specs.Behind.{ChoiceBehind, NegationBehind, NestedBehind, ShiftBehind, ConcatBehind, IndexBehind, Referred, PartRead};
+ghost use Rattle.lola_parse.specs.MayEnd.{Closes};
+ghost use Rattle.lola_parse.specs.Read.{Stops, IsWant, IsWhole};
 
 use crate::cursor::Cursor;
 use crate::fault::Fault;
@@ -20,7 +22,8 @@ use std::alloc::Global;
 const LIMIT: usize = 512;
 
 /// An outermost expression at the front, and what stands behind it. It has at most 512 tokens; where
-/// the 513th would go on, the answer is Long.
+/// the 513th would go on, the answer is Long. Where an expression of at most 512 tokens stands there
+/// and ends where no token goes on, it is the one that is answered, and no fault comes but Memory.
 pub fn outermost<'a>(
     alloc: Global,
     language: Language,
@@ -28,6 +31,7 @@ pub fn outermost<'a>(
 ) -> Result<(Expr, Cursor<'a>), Fault>
     ensures shorter { IfOk result (λ read. length read.1 < length here.entry) }
     ensures ok { IfOk result (λ read. Outermost language here.entry (tree read.0) read.1) }
+    ensures whole { IsWhole tree (Outermost language here.entry) Stops result }
 {
     let floor = here.left().saturating_sub(LIMIT);
     let descent = Descent {
@@ -48,7 +52,9 @@ pub fn outermost<'a>(
 }
 
 /// The fault of an outermost expression: past the limit it is that the expression is too long.
-fn within(floor: usize, fault: Fault) -> Fault {
+fn within(floor: usize, fault: Fault) -> Fault
+    ensures { IsWant fault → IsWant result }
+{
     match fault {
         Fault::Syntax { left } => {
             if left < floor {
@@ -77,6 +83,7 @@ impl Descent {
     fn expr<'a>(self, here: Cursor<'a>) -> Result<(Box<Expr>, Cursor<'a>), Fault>
         ensures shorter { IfOk result (λ read. length read.1 < length here.entry) }
         ensures ok { IfOk result (λ read. Expression self.language here.entry (tree read.0.value) read.1) }
+        ensures whole { IsWhole (λ b. tree b.value) (Expression self.language here.entry) (Closes 3 self.floor) result }
     {
         let (test, behind) = self.rel(here)?;
         let next = behind.next();
@@ -96,6 +103,7 @@ impl Descent {
     ) -> Result<(Box<Expr>, Cursor<'a>), Fault>
         ensures shorter { IfOk result (λ read. length read.1 < length here.entry) }
         ensures ok { IfOk result (λ read. ChoiceBehind self.language (tree test.value) at here.entry (tree read.0.value) read.1) }
+        ensures whole { IsWhole (λ b. tree b.value) (ChoiceBehind self.language (tree test.value) at here.entry) (Closes 3 self.floor) result }
     {
         let (yes, behind) = self.expr(here)?;
         let behind = behind.behind_colon()?;
@@ -108,6 +116,7 @@ impl Descent {
     fn rel<'a>(self, here: Cursor<'a>) -> Result<(Box<Expr>, Cursor<'a>), Fault>
         ensures shorter { IfOk result (λ read. length read.1 < length here.entry) }
         ensures ok { IfOk result (λ read. Rel self.language here.entry (tree read.0.value) read.1) }
+        ensures whole { IsWhole (λ b. tree b.value) (Rel self.language here.entry) (Closes 4 self.floor) result }
     {
         let (left, behind) = self.sum(here)?;
         let next = behind.next();
@@ -125,6 +134,7 @@ impl Descent {
     fn sum<'a>(self, here: Cursor<'a>) -> Result<(Box<Expr>, Cursor<'a>), Fault>
         ensures shorter { IfOk result (λ read. length read.1 < length here.entry) }
         ensures ok { IfOk result (λ read. Sum self.language here.entry (tree read.0.value) read.1) }
+        ensures whole { IsWhole (λ b. tree b.value) (Sum self.language here.entry) (Closes 5 self.floor) result }
     {
         let (first, behind) = self.term(here)?;
         self.terms(first, behind)
@@ -135,6 +145,7 @@ impl Descent {
     fn terms<'a>(self, left: Box<Expr>, here: Cursor<'a>) -> Result<(Box<Expr>, Cursor<'a>), Fault>
         ensures shorter { IfOk result (λ read. length read.1 ≤ length here.entry) }
         ensures ok { IfOk result (λ read. Terms self.language (tree left.value) here.entry (tree read.0.value) read.1) }
+        ensures whole { IsWhole (λ b. tree b.value) (Terms self.language (tree left.value) here.entry) (Closes 5 self.floor) result }
     {
         let next = here.next();
         match adding(next.symbol) {
@@ -152,6 +163,7 @@ impl Descent {
     fn term<'a>(self, here: Cursor<'a>) -> Result<(Box<Expr>, Cursor<'a>), Fault>
         ensures shorter { IfOk result (λ read. length read.1 < length here.entry) }
         ensures ok { IfOk result (λ read. Term self.language here.entry (tree read.0.value) read.1) }
+        ensures whole { IsWhole (λ b. tree b.value) (Term self.language here.entry) (Closes 6 self.floor) result }
     {
         let (first, behind) = self.factor(here)?;
         self.factors(first, behind)
@@ -166,6 +178,7 @@ impl Descent {
     ) -> Result<(Box<Expr>, Cursor<'a>), Fault>
         ensures shorter { IfOk result (λ read. length read.1 ≤ length here.entry) }
         ensures ok { IfOk result (λ read. Factors self.language (tree left.value) here.entry (tree read.0.value) read.1) }
+        ensures whole { IsWhole (λ b. tree b.value) (Factors self.language (tree left.value) here.entry) (Closes 6 self.floor) result }
     {
         let next = here.next();
         match next.symbol {
@@ -183,6 +196,7 @@ impl Descent {
     fn factor<'a>(self, here: Cursor<'a>) -> Result<(Box<Expr>, Cursor<'a>), Fault>
         ensures shorter { IfOk result (λ read. length read.1 < length here.entry) }
         ensures ok { IfOk result (λ read. Factor self.language here.entry (tree read.0.value) read.1) }
+        ensures whole { IsWhole (λ b. tree b.value) (Factor self.language here.entry) (Closes 7 self.floor) result }
     {
         if here.left() < self.floor {
             return Err(Fault::Long { left: self.floor });
@@ -210,6 +224,7 @@ impl Descent {
     fn negation<'a>(self, at: u32, here: Cursor<'a>) -> Result<(Box<Expr>, Cursor<'a>), Fault>
         ensures shorter { IfOk result (λ read. length read.1 < length here.entry) }
         ensures ok { IfOk result (λ read. NegationBehind self.language at here.entry (tree read.0.value) read.1) }
+        ensures whole { IsWhole (λ b. tree b.value) (NegationBehind self.language at here.entry) (Closes 7 self.floor) result }
     {
         let (arg, behind) = self.factor(here)?;
         Ok((not_of(self.alloc, arg, at)?, behind))
@@ -220,6 +235,7 @@ impl Descent {
     fn nested<'a>(self, here: Cursor<'a>) -> Result<(Box<Expr>, Cursor<'a>), Fault>
         ensures shorter { IfOk result (λ read. length read.1 < length here.entry) }
         ensures ok { IfOk result (λ read. NestedBehind self.language here.entry (tree read.0.value) read.1) }
+        ensures whole { IsWhole (λ b. tree b.value) (NestedBehind self.language here.entry) (λ rest. self.floor ≤ length rest) result }
     {
         let (inner, behind) = self.expr(here)?;
         Ok((inner, behind.behind_close_paren()?))
@@ -230,6 +246,7 @@ impl Descent {
     fn shift<'a>(self, op: Op, at: u32, here: Cursor<'a>) -> Result<(Box<Expr>, Cursor<'a>), Fault>
         ensures shorter { IfOk result (λ read. length read.1 < length here.entry) }
         ensures ok { IfOk result (λ read. ShiftBehind self.language op at here.entry (tree read.0.value) read.1) }
+        ensures whole { IsWhole (λ b. tree b.value) (ShiftBehind self.language op at here.entry) (λ rest. self.floor ≤ length rest) result }
     {
         let behind = here.behind_open_paren()?;
         let (value, behind) = self.expr(behind)?;
@@ -244,6 +261,7 @@ impl Descent {
     fn concat<'a>(self, at: u32, here: Cursor<'a>) -> Result<(Box<Expr>, Cursor<'a>), Fault>
         ensures shorter { IfOk result (λ read. length read.1 < length here.entry) }
         ensures ok { IfOk result (λ read. ConcatBehind self.language at here.entry (tree read.0.value) read.1) }
+        ensures whole { IsWhole (λ b. tree b.value) (ConcatBehind self.language at here.entry) (λ rest. self.floor ≤ length rest) result }
     {
         let (first, behind) = self.part(here)?;
         let (parts, behind) = self.parts(only(self.alloc, first)?, behind)?;
@@ -256,6 +274,7 @@ impl Descent {
     fn parts<'a>(self, parts: Vec<Part>, here: Cursor<'a>) -> Result<(Vec<Part>, Cursor<'a>), Fault>
         ensures shorter { IfOk result (λ read. length read.1 ≤ length here.entry) }
         ensures ok { IfOk result (λ read. MoreParts self.language (parts_tree parts.items) here.entry (parts_tree read.0.items) read.1) }
+        ensures whole { IsWhole (λ v. parts_tree v.items) (MoreParts self.language (parts_tree parts.items) here.entry) (Closes 1 self.floor) result }
     {
         let next = here.next();
         match next.symbol {
@@ -272,6 +291,7 @@ impl Descent {
     fn part<'a>(self, here: Cursor<'a>) -> Result<(Part, Cursor<'a>), Fault>
         ensures shorter { IfOk result (λ read. length read.1 < length here.entry) }
         ensures ok { IfOk result (λ read. OnePart self.language here.entry (tree read.0.value) read.0.times read.1) }
+        ensures whole { IsWhole part_tree (PartRead self.language here.entry) (Closes 2 self.floor) result }
     {
         let at = here.at();
         let (value, behind) = self.expr(here)?;
@@ -284,6 +304,7 @@ impl Descent {
     fn reference<'a>(self, here: Cursor<'a>) -> Result<(Box<Expr>, Cursor<'a>), Fault>
         ensures shorter { IfOk result (λ read. length read.1 < length here.entry) }
         ensures ok { IfOk result (λ read. Factor self.language here.entry (tree read.0.value) read.1) }
+        ensures whole { IsWhole (λ b. tree b.value) (Referred self.language here.entry) (Closes 7 self.floor) result }
     {
         let (of, behind) = reference(self.alloc, self.language, here)?;
         let next = behind.next();
@@ -305,6 +326,7 @@ impl Descent {
     fn index<'a>(self, of: Ref, at: u32, here: Cursor<'a>) -> Result<(Box<Expr>, Cursor<'a>), Fault>
         ensures shorter { IfOk result (λ read. length read.1 < length here.entry) }
         ensures ok { IfOk result (λ read. IndexBehind self.language of at here.entry (tree read.0.value) read.1) }
+        ensures whole { IsWhole (λ b. tree b.value) (IndexBehind self.language of at here.entry) (λ rest. self.floor ≤ length rest) result }
     {
         let (place, behind) = self.expr(here)?;
         let behind = behind.behind_close_bracket()?;

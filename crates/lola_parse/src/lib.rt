@@ -9,16 +9,19 @@
 mod cursor;
 mod expression;
 mod fault;
+mod laws;
 mod made;
 mod module;
 mod parser;
 mod reference;
-mod shape;
+mod shapes;
 mod statement;
 mod symbol;
 
 pub use cursor::{Cursor, Next};
 pub use expression::outermost;
 pub use fault::Fault;
+pub use laws::{one_expression, one_shape, one_tree};
 pub use parser::{ParseError, parse, parse_expr, parse_table_expr, tokens_lie_within};
+pub use shapes::shape;
 pub use symbol::{Language, Symbol};

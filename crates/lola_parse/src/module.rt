@@ -1,11 +1,13 @@
-ghost use Rattle.std.specs.Prelude.{ℕ, ◌<◌, ◌≤◌, length, IfOk, OnOk, map, ◌≡◌, [], ◌++◌};
-ghost use Rattle.lola_tree.specs.Tree.{stmt_tree, module_tree, source_tree};
+ghost use Rattle.std.specs.Prelude.{ℕ, ◌<◌, ◌≤◌, length, IfOk, IfErr, OnOk, map, ◌≡◌, [], ◌++◌};
+ghost use Rattle.lola_tree.specs.Tree.{SourceTree, stmt_tree, module_tree, source_tree};
 ghost use Rattle.lola_parse.specs.Design.{SpellsSource, OneModule, Begun, Ports, Directed, Group, port_of, way_of, Declarations, MoreConstants, Constant, Registers, RegisterRow, MoreVariables, VariableRow, VariableKind, local_of};
-ghost use Rattle.lola_parse.specs.Behind.{GroupsBehind};
+ghost use Rattle.lola_parse.specs.Behind.{GroupsBehind, DeclaredRead, declared_of};
+ghost use Rattle.lola_parse.specs.MayEnd.{Sole, Before, NoName, DeclarationsEnd};
+ghost use Rattle.lola_parse.specs.Read.{IsWant, IsWhole, IsMade, Anywhere};
 
 use crate::cursor::Cursor;
 use crate::fault::Fault;
-use crate::shape::{copy_kind, copy_name, copy_named, copy_shape, names, shape};
+use crate::shapes::{copy_kind, copy_name, copy_named, copy_shape, names, shape};
 use crate::statement::{body, name};
 use crate::symbol::Symbol;
 use lola_bits::Seq;
@@ -15,6 +17,7 @@ use std::alloc::Global;
 /// `module {module}` up to the end of the text.
 pub(crate) fn source<'a>(alloc: Global, here: Cursor<'a>) -> Result<Source, Fault>
     ensures ok { IfOk result (λ tree. SpellsSource here.entry (source_tree tree)) }
+    ensures whole { (tree : SourceTree) → SpellsSource here.entry tree → IsMade source_tree tree result }
 {
     let (first, mut behind) = module(alloc, here)?;
     let mut modules = Vec::new(alloc);
@@ -33,6 +36,7 @@ pub(crate) fn source<'a>(alloc: Global, here: Cursor<'a>) -> Result<Source, Faul
 fn module<'a>(alloc: Global, here: Cursor<'a>) -> Result<(Module, Cursor<'a>), Fault>
     ensures shorter { IfOk result (λ read. length read.1 < length here.entry) }
     ensures ok { IfOk result (λ read. OneModule here.entry (module_tree read.0) read.1) }
+    ensures whole { IsWhole module_tree (OneModule here.entry) Anywhere result }
 {
     let (title, behind) = name(alloc, here.behind_module()?)?;
     let (ports, behind) = ports(alloc, behind.behind_open_paren()?)?;
@@ -61,6 +65,7 @@ fn module<'a>(alloc: Global, here: Cursor<'a>) -> Result<(Module, Cursor<'a>), F
 fn begun<'a>(alloc: Global, here: Cursor<'a>) -> Result<(Vec<Stmt>, Cursor<'a>), Fault>
     ensures shorter { IfOk result (λ read. length read.1 ≤ length here.entry) }
     ensures ok { IfOk result (λ read. Begun here.entry (map stmt_tree read.0.items) read.1) }
+    ensures whole { IsWhole (λ v. map stmt_tree v.items) (Begun here.entry) (Before Symbol.End) result }
 {
     let next = here.next();
     match next.symbol {
@@ -73,6 +78,7 @@ fn begun<'a>(alloc: Global, here: Cursor<'a>) -> Result<(Vec<Stmt>, Cursor<'a>),
 fn ports<'a>(alloc: Global, here: Cursor<'a>) -> Result<(Vec<Port>, Cursor<'a>), Fault>
     ensures shorter { IfOk result (λ read. length read.1 ≤ length here.entry) }
     ensures ok { IfOk result (λ read. Ports here.entry read.0.items read.1) }
+    ensures whole { IsWhole (λ v. v.items) (Ports here.entry) (Before Symbol.CloseParen) result }
 {
     let next = here.next();
     match way(next.symbol) {
@@ -97,6 +103,7 @@ fn way(symbol: Symbol) -> Option<Way>
 fn groups<'a>(alloc: Global, first: Way, here: Cursor<'a>) -> Result<(Vec<Port>, Cursor<'a>), Fault>
     ensures shorter { IfOk result (λ read. length read.1 < length here.entry) }
     ensures ok { IfOk result (λ read. GroupsBehind first here.entry read.0.items read.1) }
+    ensures whole { IsWhole (λ v. v.items) (GroupsBehind first here.entry) (Before Symbol.CloseParen) result }
 {
     let mut current = first;
     let (mut ports, mut behind) = group(alloc, current, Vec::new(alloc), here)?;
@@ -119,6 +126,7 @@ fn groups<'a>(alloc: Global, first: Way, here: Cursor<'a>) -> Result<(Vec<Port>,
 fn said_way<'a>(before: Way, here: Cursor<'a>) -> (Way, Cursor<'a>)
     ensures shorter { length result.1 ≤ length here.entry }
     ensures ok { Directed before here.entry result.0 result.1 }
+    ensures whole { Sole (Directed before here.entry) (Before Symbol.Name) result.0 result.1 }
 {
     let next = here.next();
     match way(next.symbol) {
@@ -136,6 +144,7 @@ fn group<'a>(
 ) -> Result<(Vec<Port>, Cursor<'a>), Fault>
     ensures shorter { IfOk result (λ read. length read.1 < length here.entry) }
     ensures ok { IfOk result (λ read. Group way ports.items here.entry read.0.items read.1) }
+    ensures whole { IsWhole (λ v. v.items) (Group way ports.items here.entry) Anywhere result }
 {
     let (names, behind) = names(alloc, here)?;
     let (shape, behind) = shape(alloc, behind.behind_colon()?)?;
@@ -151,7 +160,8 @@ fn add_ports(
     shape: &Shape,
     ports: &mut Vec<Port>,
 ) -> Result<(), Fault>
-    ensures { OnOk result (ports.new.items ≡ ports.old.items ++ map (port_of way shape.now) names.now) }
+    ensures ok { OnOk result (ports.new.items ≡ ports.old.items ++ map (port_of way shape.now) names.now) }
+    ensures fails { IfErr result IsWant }
 {
     for named in names {
         ports.push(Port {
@@ -175,6 +185,7 @@ struct Declared {
 fn declarations<'a>(alloc: Global, here: Cursor<'a>) -> Result<(Declared, Cursor<'a>), Fault>
     ensures shorter { IfOk result (λ read. length read.1 ≤ length here.entry) }
     ensures ok { IfOk result (λ read. Declarations [] [] here.entry read.0.consts.items read.0.locals.items read.1) }
+    ensures whole { IsWhole declared_of (DeclaredRead here.entry) DeclarationsEnd result }
 {
     let mut consts = Vec::new(alloc);
     let mut locals = Vec::new(alloc);
@@ -210,6 +221,7 @@ fn constants<'a>(
 ) -> Result<(Vec<Const>, Cursor<'a>), Fault>
     ensures shorter { IfOk result (λ read. length read.1 ≤ length here.entry) }
     ensures ok { IfOk result (λ read. MoreConstants consts.items here.entry read.0.items read.1) }
+    ensures whole { IsWhole (λ v. v.items) (MoreConstants consts.items here.entry) NoName result }
 {
     let mut consts = consts;
     let mut behind = here;
@@ -229,6 +241,7 @@ fn constants<'a>(
 fn constant<'a>(alloc: Global, here: Cursor<'a>) -> Result<(Const, Cursor<'a>), Fault>
     ensures shorter { IfOk result (λ read. length read.1 < length here.entry) }
     ensures ok { IfOk result (λ read. Constant here.entry read.0 read.1) }
+    ensures whole { IsWhole (λ c. c) (Constant here.entry) Anywhere result }
 {
     let (named, behind) = name(alloc, here)?;
     let behind = behind.behind_assign()?;
@@ -260,6 +273,7 @@ fn registers<'a>(
 ) -> Result<(Vec<Local>, Cursor<'a>), Fault>
     ensures shorter { IfOk result (λ read. length read.1 < length here.entry) }
     ensures ok { IfOk result (λ read. Registers locals.items here.entry read.0.items read.1) }
+    ensures whole { IsWhole (λ v. v.items) (Registers locals.items here.entry) NoName result }
 {
     let (clock, behind) = name(alloc, here.behind_open_paren()?)?;
     let (mut locals, mut behind) = register_row(
@@ -289,6 +303,7 @@ fn register_row<'a>(
 ) -> Result<(Vec<Local>, Cursor<'a>), Fault>
     ensures shorter { IfOk result (λ read. length read.1 < length here.entry) }
     ensures ok { IfOk result (λ read. RegisterRow clock.now locals.items here.entry read.0.items read.1) }
+    ensures whole { IsWhole (λ v. v.items) (RegisterRow clock.now locals.items here.entry) Anywhere result }
 {
     let (names, behind) = names(alloc, here)?;
     let (shape, behind) = shape(alloc, behind.behind_colon()?)?;
@@ -309,6 +324,7 @@ fn variables<'a>(
 ) -> Result<(Vec<Local>, Cursor<'a>), Fault>
     ensures shorter { IfOk result (λ read. length read.1 ≤ length here.entry) }
     ensures ok { IfOk result (λ read. MoreVariables locals.items here.entry read.0.items read.1) }
+    ensures whole { IsWhole (λ v. v.items) (MoreVariables locals.items here.entry) NoName result }
 {
     let mut locals = locals;
     let mut behind = here;
@@ -332,6 +348,7 @@ fn variable_row<'a>(
 ) -> Result<(Vec<Local>, Cursor<'a>), Fault>
     ensures shorter { IfOk result (λ read. length read.1 < length here.entry) }
     ensures ok { IfOk result (λ read. VariableRow locals.items here.entry read.0.items read.1) }
+    ensures whole { IsWhole (λ v. v.items) (VariableRow locals.items here.entry) Anywhere result }
 {
     let (names, behind) = names(alloc, here)?;
     let (kind, behind) = variable_kind(alloc, behind.behind_colon()?)?;
@@ -344,6 +361,7 @@ fn variable_row<'a>(
 fn variable_kind<'a>(alloc: Global, here: Cursor<'a>) -> Result<(LocalKind, Cursor<'a>), Fault>
     ensures shorter { IfOk result (λ read. length read.1 < length here.entry) }
     ensures ok { IfOk result (λ read. VariableKind here.entry read.0 read.1) }
+    ensures whole { IsWhole (λ k. k) (VariableKind here.entry) Anywhere result }
 {
     match here.next().symbol {
         Symbol::Name => {
@@ -364,7 +382,8 @@ fn add_locals(
     names: &[Named],
     locals: &mut Vec<Local>,
 ) -> Result<(), Fault>
-    ensures { OnOk result (locals.new.items ≡ locals.old.items ++ map (local_of kind.now) names.now) }
+    ensures ok { OnOk result (locals.new.items ≡ locals.old.items ++ map (local_of kind.now) names.now) }
+    ensures fails { IfErr result IsWant }
 {
     for named in names {
         locals.push(Local {

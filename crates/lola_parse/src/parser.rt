@@ -1,10 +1,11 @@
-ghost use Rattle.std.specs.Prelude.{ℕ, ◌<◌, ◌≤◌, ◌^◌, length, IfOk};
+ghost use Rattle.std.specs.Prelude.{ℕ, ◌<◌, ◌≤◌, ◌^◌, length, IfOk, IfErr, ◌≡◌, ◌≢◌};
 ghost use Rattle.std.specs.Prelude.{List};
 ghost use Rattle.lola_scan.specs.declared.token.Token.{Token as Scanned};
 ghost use Rattle.lola_scan.specs.Tokens.{Spells};
 ghost use Rattle.lola_parse.specs.Symbols.{AreIn, items_of};
 ghost use Rattle.lola_parse.specs.Design.{SpellsSource, Reads};
-ghost use Rattle.lola_tree.specs.Tree.{tree, source_tree};
+ghost use Rattle.lola_parse.specs.Read.{IsWant, IsParsed, ReadsTo};
+ghost use Rattle.lola_tree.specs.Tree.{Tree, tree, SourceTree, source_tree};
 
 use crate::cursor::Cursor;
 use crate::expression::outermost;
@@ -34,11 +35,13 @@ pub enum ParseError {
 /// The tree of a design's text, which all its tokens spell. They are those that `scan` gave for the
 /// text. Syntax stands at the first token such that no grammatical text begins with the tokens up to
 /// it, or at the text's length where it ends too early; Long at the 513th token of one outermost
-/// expression, where that would go on with it. Time and memory are linear in the tokens.
+/// expression, where that would go on with it. Both come only where the tokens spell no tree with at
+/// most 512 tokens in each outermost expression. Time and memory are linear in the tokens.
 pub fn parse(alloc: Global, text: &[u8], tokens: &[Token]) -> Result<Source, ParseError>
     requires short { length text.now < 2 ^ 32 }
     requires lie_within { AreIn text.now tokens.now }
     ensures ok { IfOk result (λ tree. SpellsSource (items_of Language.Design text.now tokens.now) (source_tree tree)) }
+    ensures none { IfErr result (λ error. error ≢ ParseError.Memory → (tree : SourceTree) → SpellsSource (items_of Language.Design text.now tokens.now) tree → ⊥) }
 {
     match source(alloc, Cursor::new(Language::Design, text, tokens)) {
         Ok(tree) => Ok(tree),
@@ -49,7 +52,9 @@ pub fn parse(alloc: Global, text: &[u8], tokens: &[Token]) -> Result<Source, Par
 /// The expression that stands from token number `from` on, in a design's text, and the number of the
 /// token behind it. Of the tokens from there on it takes the longest run with which some expression
 /// begins; where that run is no expression, it is Syntax at the token behind the run, or at the
-/// text's length where the text ends there; Long is as in `parse`.
+/// text's length where the text ends there; Long is as in `parse`. Where an expression of at most 512
+/// tokens stands there and ends where no token goes on, it is the one that is answered, and no error
+/// comes but Memory.
 pub fn parse_expr(
     alloc: Global,
     text: &[u8],
@@ -60,6 +65,7 @@ pub fn parse_expr(
     requires lie_within { AreIn text.now tokens.now }
     requires from_in { from ≤ length tokens.now }
     ensures ok { IfOk result (λ read. Reads Language.Design text.now tokens.now from (tree read.0) read.1) }
+    ensures whole { (e : Tree) (n : ℕ) → ReadsTo Language.Design text.now tokens.now from e n → IsParsed tree e n result }
 {
     expr_from(alloc, Language::Design, text, tokens, from)
 }
@@ -76,6 +82,7 @@ pub fn parse_table_expr(
     requires lie_within { AreIn text.now tokens.now }
     requires from_in { from ≤ length tokens.now }
     ensures ok { IfOk result (λ read. Reads Language.Table text.now tokens.now from (tree read.0) read.1) }
+    ensures whole { (e : Tree) (n : ℕ) → ReadsTo Language.Table text.now tokens.now from e n → IsParsed tree e n result }
 {
     expr_from(alloc, Language::Table, text, tokens, from)
 }
@@ -92,6 +99,7 @@ fn expr_from(
     requires lie_within { AreIn text.now tokens.now }
     requires from_in { from ≤ length tokens.now }
     ensures ok { IfOk result (λ read. Reads language text.now tokens.now from (tree read.0) read.1) }
+    ensures whole { (e : Tree) (n : ℕ) → ReadsTo language text.now tokens.now from e n → IsParsed tree e n result }
 {
     let (_, rest) = tokens.split_at(from);
     match outermost(alloc, language, Cursor::new(language, text, rest)) {
@@ -103,6 +111,7 @@ fn expr_from(
 /// The answer for a fault, with its place in the text.
 fn placed(text: &[u8], tokens: &[Token], fault: Fault) -> ParseError
     requires { length text.now < 2 ^ 32 }
+    ensures { IsWant fault → result ≡ ParseError.Memory }
 {
     match fault {
         Fault::Syntax { left } => ParseError::Syntax {

@@ -1,7 +1,10 @@
-ghost use Rattle.std.specs.Prelude.{ℕ, ◌<◌, ◌≤◌, length, IfOk, ◌≡◌, [], ◌∷◌};
+ghost use Rattle.std.specs.Prelude.{ℕ, ◌<◌, ◌≤◌, Bool, true, false, List, length, IfOk, ◌≡◌, [], ◌∷◌};
 ghost use Rattle.lola_tree.specs.Tree.{tree};
-ghost use Rattle.lola_parse.specs.Grammar.{Counted, Times, Reference};
-ghost use Rattle.lola_parse.specs.Behind.{BitBehind, SliceBehind, PathBehind};
+ghost use Rattle.lola_parse.specs.Symbols.{Item};
+ghost use Rattle.lola_parse.specs.Grammar.{Passes, Counted, Times, Reference};
+ghost use Rattle.lola_parse.specs.Behind.{BitBehind, SliceBehind, SliceBegins, PathBehind};
+ghost use Rattle.lola_parse.specs.MayEnd.{Closes, PathCloses};
+ghost use Rattle.lola_parse.specs.Read.{IsWhole, Anywhere};
 
 use crate::cursor::Cursor;
 use crate::fault::Fault;
@@ -19,6 +22,7 @@ pub(crate) fn count<'a>(
 ) -> Result<(Count, Cursor<'a>), Fault>
     ensures shorter { IfOk result (λ read. length read.1 < length here.entry) }
     ensures ok { IfOk result (λ read. Counted language here.entry read.0 read.1) }
+    ensures whole { IsWhole (λ c. c) (Counted language here.entry) Anywhere result }
 {
     let next = here.next();
     match next.symbol {
@@ -43,7 +47,10 @@ pub(crate) fn count<'a>(
 }
 
 /// Whether a count and a `:` stand at the front.
-pub(crate) fn begins_slice(language: Language, here: &Cursor) -> bool {
+pub(crate) fn begins_slice(language: Language, here: &Cursor) -> bool
+    ensures yes { result ≡ true → SliceBegins language here.now }
+    ensures no { result ≡ false → SliceBegins language here.now → ⊥ }
+{
     let next = here.next();
     match next.symbol {
         Symbol::Number { value: _, width } => match width {
@@ -59,7 +66,10 @@ pub(crate) fn begins_slice(language: Language, here: &Cursor) -> bool {
 }
 
 /// Whether a `:` stands at the front.
-fn begins_with_colon(here: &Cursor) -> bool {
+fn begins_with_colon(here: &Cursor) -> bool
+    ensures yes { result ≡ true → (rest : List Item) × Passes Symbol.Colon here.now rest }
+    ensures no { result ≡ false → (rest : List Item) → Passes Symbol.Colon here.now rest → ⊥ }
+{
     match here.next().symbol {
         Symbol::Colon => true,
         _ => false,
@@ -75,6 +85,7 @@ pub(crate) fn times<'a>(
 ) -> Result<(Count, Cursor<'a>), Fault>
     ensures shorter { IfOk result (λ read. length read.1 ≤ length here.entry) }
     ensures ok { IfOk result (λ read. Times language at here.entry read.0 read.1) }
+    ensures whole { IsWhole (λ c. c) (Times language at here.entry) (Closes 2 0) result }
 {
     let next = here.next();
     match next.symbol {
@@ -93,6 +104,7 @@ pub(crate) fn bit<'a>(
 ) -> Result<(Box<Expr>, Cursor<'a>), Fault>
     ensures shorter { IfOk result (λ read. length read.1 < length here.entry) }
     ensures ok { IfOk result (λ read. BitBehind language of at here.entry (tree read.0.value) read.1) }
+    ensures whole { IsWhole (λ b. tree b.value) (BitBehind language of at here.entry) Anywhere result }
 {
     let (index, behind) = count(alloc, language, here)?;
     Ok((bit_of(alloc, of, index, at)?, behind))
@@ -108,6 +120,7 @@ pub(crate) fn slice<'a>(
 ) -> Result<(Box<Expr>, Cursor<'a>), Fault>
     ensures shorter { IfOk result (λ read. length read.1 < length here.entry) }
     ensures ok { IfOk result (λ read. SliceBehind language of at here.entry (tree read.0.value) read.1) }
+    ensures whole { IsWhole (λ b. tree b.value) (SliceBehind language of at here.entry) Anywhere result }
 {
     let (high, behind) = count(alloc, language, here)?;
     let behind = behind.behind_colon()?;
@@ -124,6 +137,7 @@ pub(crate) fn reference<'a>(
 ) -> Result<(Ref, Cursor<'a>), Fault>
     ensures shorter { IfOk result (λ read. length read.1 < length here.entry) }
     ensures ok { IfOk result (λ read. Reference language here.entry read.0 read.1) }
+    ensures whole { IsWhole (λ r. r) (Reference language here.entry) (PathCloses language) result }
 {
     let next = here.next();
     match next.symbol {
@@ -160,6 +174,7 @@ pub(crate) fn reference<'a>(
 fn path<'a>(alloc: Global, here: Cursor<'a>) -> Result<(Vec<Name>, Cursor<'a>), Fault>
     ensures shorter { IfOk result (λ read. length read.1 < length here.entry) }
     ensures ok { IfOk result (λ read. PathBehind here.entry read.0.items read.1) }
+    ensures whole { IsWhole (λ v. v.items) (PathBehind here.entry) (PathCloses Language.Table) result }
 {
     let next = here.next();
     if !next.is_word {

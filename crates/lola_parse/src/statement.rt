@@ -2,7 +2,9 @@ ghost use Rattle.std.specs.Prelude.{ℕ, ◌<◌, ◌≤◌, length, IfOk, map};
 ghost use Rattle.lola_tree.specs.Tree.{stmt_tree, actual_tree, place_tree};
 ghost use Rattle.lola_parse.specs.Grammar.{Names};
 ghost use Rattle.lola_parse.specs.Design.{Argument, Statement, Optional, Body};
-ghost use Rattle.lola_parse.specs.Behind.{StatementBehind, AssignedBehind, PlacedBehind, CalledBehind, ArgumentsBehind, PadBehind};
+ghost use Rattle.lola_parse.specs.Behind.{StatementBehind, AssignedBehind, PlacedBehind, CalledBehind, ArgumentsBehind, PadBehind, NamedStatement, NameRead};
+ghost use Rattle.lola_parse.specs.MayEnd.{Before, StatementEnds};
+ghost use Rattle.lola_parse.specs.Read.{IsWhole, Anywhere, Stops};
 
 use crate::cursor::Cursor;
 use crate::expression::outermost;
@@ -16,6 +18,7 @@ use std::alloc::Global;
 pub(crate) fn name<'a>(alloc: Global, here: Cursor<'a>) -> Result<(Named, Cursor<'a>), Fault>
     ensures shorter { IfOk result (λ read. length read.1 < length here.entry) }
     ensures ok { IfOk result (λ read. Names read.0.name read.0.at here.entry read.1) }
+    ensures whole { IsWhole (λ n. n) (NameRead here.entry) Anywhere result }
 {
     let next = here.next();
     match next.symbol {
@@ -31,6 +34,7 @@ pub(crate) fn name<'a>(alloc: Global, here: Cursor<'a>) -> Result<(Named, Cursor
 pub(crate) fn statement<'a>(alloc: Global, here: Cursor<'a>) -> Result<(Stmt, Cursor<'a>), Fault>
     ensures shorter { IfOk result (λ read. length read.1 < length here.entry) }
     ensures ok { IfOk result (λ read. Statement here.entry (stmt_tree read.0) read.1) }
+    ensures whole { IsWhole stmt_tree (Statement here.entry) Stops result }
 {
     let next = here.next();
     match next.symbol {
@@ -51,6 +55,7 @@ fn named_statement<'a>(
 ) -> Result<(Stmt, Cursor<'a>), Fault>
     ensures shorter { IfOk result (λ read. length read.1 < length here.entry) }
     ensures ok { IfOk result (λ read. StatementBehind target.name target.at here.entry (stmt_tree read.0) read.1) }
+    ensures whole { IsWhole stmt_tree (NamedStatement target.name target.at here.entry) Stops result }
 {
     let next = here.next();
     match next.symbol {
@@ -71,6 +76,7 @@ fn assigned<'a>(
 ) -> Result<(Stmt, Cursor<'a>), Fault>
     ensures shorter { IfOk result (λ read. length read.1 < length here.entry) }
     ensures ok { IfOk result (λ read. AssignedBehind target.name (place_tree place) target.at equals here.entry (stmt_tree read.0) read.1) }
+    ensures whole { IsWhole stmt_tree (AssignedBehind target.name (place_tree place) target.at equals here.entry) Stops result }
 {
     let (value, behind) = outermost(alloc, Language::Design, here)?;
     let Named { name, at } = target;
@@ -95,6 +101,7 @@ fn placed<'a>(
 ) -> Result<(Stmt, Cursor<'a>), Fault>
     ensures shorter { IfOk result (λ read. length read.1 < length here.entry) }
     ensures ok { IfOk result (λ read. PlacedBehind target.name target.at at here.entry (stmt_tree read.0) read.1) }
+    ensures whole { IsWhole stmt_tree (PlacedBehind target.name target.at at here.entry) Stops result }
 {
     let (value, behind) = outermost(alloc, Language::Design, here)?;
     let behind = behind.behind_close_bracket()?;
@@ -115,6 +122,7 @@ fn placed<'a>(
 fn called<'a>(alloc: Global, target: Named, here: Cursor<'a>) -> Result<(Stmt, Cursor<'a>), Fault>
     ensures shorter { IfOk result (λ read. length read.1 < length here.entry) }
     ensures ok { IfOk result (λ read. CalledBehind target.name target.at here.entry (stmt_tree read.0) read.1) }
+    ensures whole { IsWhole stmt_tree (CalledBehind target.name target.at here.entry) Anywhere result }
 {
     let (args, behind) = arguments(alloc, here)?;
     let behind = behind.behind_close_paren()?;
@@ -133,6 +141,7 @@ fn called<'a>(alloc: Global, target: Named, here: Cursor<'a>) -> Result<(Stmt, C
 fn arguments<'a>(alloc: Global, here: Cursor<'a>) -> Result<(Vec<Actual>, Cursor<'a>), Fault>
     ensures shorter { IfOk result (λ read. length read.1 < length here.entry) }
     ensures ok { IfOk result (λ read. ArgumentsBehind here.entry (map actual_tree read.0.items) read.1) }
+    ensures whole { IsWhole (λ v. map actual_tree v.items) (ArgumentsBehind here.entry) (Before Symbol.CloseParen) result }
 {
     let (first, mut behind) = argument(alloc, here)?;
     let mut args = Vec::new(alloc);
@@ -154,6 +163,7 @@ fn arguments<'a>(alloc: Global, here: Cursor<'a>) -> Result<(Vec<Actual>, Cursor
 fn argument<'a>(alloc: Global, here: Cursor<'a>) -> Result<(Actual, Cursor<'a>), Fault>
     ensures shorter { IfOk result (λ read. length read.1 < length here.entry) }
     ensures ok { IfOk result (λ read. Argument here.entry (actual_tree read.0) read.1) }
+    ensures whole { IsWhole actual_tree (Argument here.entry) Stops result }
 {
     let at = here.at();
     let (value, behind) = outermost(alloc, Language::Design, here)?;
@@ -164,6 +174,7 @@ fn argument<'a>(alloc: Global, here: Cursor<'a>) -> Result<(Actual, Cursor<'a>),
 fn pad<'a>(alloc: Global, at: u32, here: Cursor<'a>) -> Result<(Stmt, Cursor<'a>), Fault>
     ensures shorter { IfOk result (λ read. length read.1 < length here.entry) }
     ensures ok { IfOk result (λ read. PadBehind at here.entry (stmt_tree read.0) read.1) }
+    ensures whole { IsWhole stmt_tree (PadBehind at here.entry) Anywhere result }
 {
     let (io, behind) = name(alloc, here.behind_open_paren()?)?;
     let (inner, behind) = name(alloc, behind.behind_comma()?)?;
@@ -186,6 +197,7 @@ fn pad<'a>(alloc: Global, at: u32, here: Cursor<'a>) -> Result<(Stmt, Cursor<'a>
 pub(crate) fn body<'a>(alloc: Global, here: Cursor<'a>) -> Result<(Vec<Stmt>, Cursor<'a>), Fault>
     ensures shorter { IfOk result (λ read. length read.1 ≤ length here.entry) }
     ensures ok { IfOk result (λ read. Body here.entry (map stmt_tree read.0.items) read.1) }
+    ensures whole { IsWhole (λ v. map stmt_tree v.items) (Body here.entry) (Before Symbol.End) result }
 {
     let (mut body, mut behind) = with_statement(alloc, Vec::new(alloc), here)?;
     'body: loop {
@@ -209,6 +221,7 @@ fn with_statement<'a>(
 ) -> Result<(Vec<Stmt>, Cursor<'a>), Fault>
     ensures shorter { IfOk result (λ read. length read.1 ≤ length here.entry) }
     ensures ok { IfOk result (λ read. Optional (map stmt_tree body.items) here.entry (map stmt_tree read.0.items) read.1) }
+    ensures whole { IsWhole (λ v. map stmt_tree v.items) (Optional (map stmt_tree body.items) here.entry) StatementEnds result }
 {
     match here.next().symbol {
         Symbol::Name | Symbol::Ts => {

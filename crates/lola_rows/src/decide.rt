@@ -5,14 +5,14 @@ use std::alloc::Global;
 use std::process::Abort;
 use std::test::Fail;
 
-const TOGGLER: &[u8] =
+pub const TOGGLER: &[u8] =
     b"MODULE Tog(IN clk, rst, t: BIT; OUT o: BIT); REG (clk) q: BIT;\nBEGIN q := ~rst & (q ^ t); o := q END Tog.";
 
 const COUNTER: &[u8] =
     b"MODULE Cnt(IN clk, rst: BIT); REG (clk) q0, q1: BIT;\nBEGIN q0 := ~rst & ~q0; q1 := q1 ^ (q0 & ~rst) END Cnt.";
 
 /// Runs `decide` on a design and a table, and compares the status and what is printed.
-fn expect(
+pub fn expect(
     rt: &impl Abort,
     alloc: Global,
     source: &[u8],

@@ -8,3 +8,5 @@ mod decide;
 mod makers;
 #[cfg(test)]
 mod outside;
+#[cfg(test)]
+mod verdicts;

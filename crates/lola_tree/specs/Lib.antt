@@ -1,3 +1,4 @@
 pub mod Cycle
+pub mod Signals
 pub mod Tree
 pub mod Value

@@ -2,12 +2,14 @@ use Rattle.std.proofs.Common.{◌<◌, length, List}
 use Rattle.lola_parse.specs.Symbols.{Item}
 use Rattle.lola_tree.specs.declared.module.Local.{Local}
 use Rattle.lola_parse.specs.Design.{MoreRegisters, Registers}
+use Rattle.lola_parse.specs.MayEnd.{NoName}
 use Rattle.lola_parse.proofs.module.registers.Given as goal
 
 -- what goes on with the rows so far completes them
 abbrev pub invariant-rows : goal.invariant-rows
 invariant-rows l = record {
   shorter : length l.behind < length l.fn.here;
+  whole : (locals : List Local) (rest : List Item) → Registers l.fn.locals.items l.fn.here locals rest → NoName rest → MoreRegisters l.clock l.locals.items l.behind locals rest;
   reads : (locals : List Local) (rest : List Item) → MoreRegisters l.clock l.locals.items l.behind locals rest → Registers l.fn.locals.items l.fn.here locals rest;
 }
 

@@ -6,7 +6,10 @@ use Rattle.lola_parse.proofs.module.source.Given as goal
 
 -- what goes on with the modules so far, to the end, completes them
 abbrev pub invariant-modules : goal.invariant-modules
-invariant-modules l = (t : SourceTree) → MoreModules (map module_tree l.modules.items) l.behind t.modules [] → SpellsSource l.fn.here t
+invariant-modules l = record {
+  whole : (t : SourceTree) → SpellsSource l.fn.here t → MoreModules (map module_tree l.modules.items) l.behind t.modules [];
+  reads : (t : SourceTree) → MoreModules (map module_tree l.modules.items) l.behind t.modules [] → SpellsSource l.fn.here t;
+}
 
 abbrev pub decreases-modules : goal.decreases-modules
 decreases-modules l = length l.behind

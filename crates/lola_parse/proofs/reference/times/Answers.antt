@@ -1,8 +1,9 @@
-use Rattle.std.proofs.Common.{refl, arith}
+use Rattle.std.proofs.Common.{refl}
 use Rattle.std.proofs.lemmas.Result.{IfOk-weaker}
 use Rattle.lola_parse.specs.declared.symbol.Symbol.TheVariants as s
 use Rattle.lola_parse.specs.Grammar.{once, repeated}
 use Rattle.lola_parse.proofs.Fronts.{stands}
+use Rattle.lola_parse.proofs.Whole.{not_front, times_once}
 use Rattle.lola_parse.proofs.reference.times.Goals as goal
 
 pub returns-in-Times-clause-ok : goal.returns-in-Times-clause-ok
@@ -10,5 +11,8 @@ returns-in-Times-clause-ok c =
     IfOk-weaker c.count.result _ _ (λ read h. repeated c.next-next.result.rest (stands c.args.here c.next-next.result s.Times c.next-next.ensures c.in-Times.is refl) h)
     c.count.ensures.ok
 
-pub returns-in_default : goal.returns-in_default
-returns-in_default c = record { shorter = omega arith; ok = once refl refl }
+pub returns-in_default-clause-ok : goal.returns-in_default-clause-ok
+returns-in_default-clause-ok c = once refl refl
+
+pub returns-in_default-clause-whole : goal.returns-in_default-clause-whole
+returns-in_default-clause-whole c = λ times rest read closes. times_once read (not_front c.args.here c.next-next.result c.next-next.ensures c.in_default.not-Times)

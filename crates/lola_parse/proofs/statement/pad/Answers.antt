@@ -1,5 +1,8 @@
 use Rattle.std.proofs.Common.{refl}
 use Rattle.lola_tree.specs.Tree.{actual_tree}
+use Rattle.lola_parse.proofs.Statements.{pad_step}
+use Rattle.lola_parse.proofs.Whole.{handed_on}
+use Rattle.lola_parse.proofs.Steps.{passed, was_read, refuses, by_read}
 use Rattle.lola_parse.proofs.statement.pad.Goals as goal
 
 pub returns-clause-ok : goal.returns-clause-ok
@@ -28,3 +31,33 @@ returns-clause-ok c =
       close_passed = c.in_ok-behind.ensures.ok;
       tree_is = refl;
     }
+
+pub returns-in_err-behind_open_paren-clause-whole : goal.returns-in_err-behind_open_paren-clause-whole
+returns-in_err-behind_open_paren-clause-whole c = λ t rest h ends. refuses (pad_step h) c.in_err-behind_open_paren.ensures.whole
+
+pub returns-in_err-io-clause-whole : goal.returns-in_err-io-clause-whole
+returns-in_err-io-clause-whole c = λ t rest h ends. let opened = passed _ (pad_step h) c.in_ok-behind_open_paren.ensures.whole in handed_on _ _ rest _ _ c.from_residual-in_err-io.ensures.1 (by_read opened c.in_err-io.ensures.whole)
+
+pub returns-in_err-behind_comma-clause-whole : goal.returns-in_err-behind_comma-clause-whole
+returns-in_err-behind_comma-clause-whole c = λ t rest h ends. let opened = passed _ (pad_step h) c.in_ok-behind_open_paren.ensures.whole in let io = was_read _ opened c.in_ok-io.ensures.whole in refuses io c.in_err-behind_comma.ensures.whole
+
+pub returns-in_err-inner-clause-whole : goal.returns-in_err-inner-clause-whole
+returns-in_err-inner-clause-whole c = λ t rest h ends. let opened = passed _ (pad_step h) c.in_ok-behind_open_paren.ensures.whole in let io = was_read _ opened c.in_ok-io.ensures.whole in let comma = passed _ io c.in_ok-behind_comma.ensures.whole in handed_on _ _ rest _ _ c.from_residual-in_err-inner.ensures.1 (by_read comma c.in_err-inner.ensures.whole)
+
+pub returns-in_err-behind_comma-2-clause-whole : goal.returns-in_err-behind_comma-2-clause-whole
+returns-in_err-behind_comma-2-clause-whole c = λ t rest h ends. let opened = passed _ (pad_step h) c.in_ok-behind_open_paren.ensures.whole in let io = was_read _ opened c.in_ok-io.ensures.whole in let comma = passed _ io c.in_ok-behind_comma.ensures.whole in let inner = was_read _ comma c.in_ok-inner.ensures.whole in refuses inner c.in_err-behind_comma-2.ensures.whole
+
+pub returns-in_err-value-clause-whole : goal.returns-in_err-value-clause-whole
+returns-in_err-value-clause-whole c = λ t rest h ends. let opened = passed _ (pad_step h) c.in_ok-behind_open_paren.ensures.whole in let io = was_read _ opened c.in_ok-io.ensures.whole in let comma = passed _ io c.in_ok-behind_comma.ensures.whole in let inner = was_read _ comma c.in_ok-inner.ensures.whole in let comma2 = passed _ inner c.in_ok-behind_comma-2.ensures.whole in handed_on _ _ rest _ _ c.from_residual-in_err-value.ensures.1 (by_read comma2 c.in_err-value.ensures.whole)
+
+pub returns-in_err-behind_comma-3-clause-whole : goal.returns-in_err-behind_comma-3-clause-whole
+returns-in_err-behind_comma-3-clause-whole c = λ t rest h ends. let opened = passed _ (pad_step h) c.in_ok-behind_open_paren.ensures.whole in let io = was_read _ opened c.in_ok-io.ensures.whole in let comma = passed _ io c.in_ok-behind_comma.ensures.whole in let inner = was_read _ comma c.in_ok-inner.ensures.whole in let comma2 = passed _ inner c.in_ok-behind_comma-2.ensures.whole in let value = was_read _ comma2 c.in_ok-value.ensures.whole in refuses value c.in_err-behind_comma-3.ensures.whole
+
+pub returns-in_err-release-clause-whole : goal.returns-in_err-release-clause-whole
+returns-in_err-release-clause-whole c = λ t rest h ends. let opened = passed _ (pad_step h) c.in_ok-behind_open_paren.ensures.whole in let io = was_read _ opened c.in_ok-io.ensures.whole in let comma = passed _ io c.in_ok-behind_comma.ensures.whole in let inner = was_read _ comma c.in_ok-inner.ensures.whole in let comma2 = passed _ inner c.in_ok-behind_comma-2.ensures.whole in let value = was_read _ comma2 c.in_ok-value.ensures.whole in let comma3 = passed _ value c.in_ok-behind_comma-3.ensures.whole in handed_on _ _ rest _ _ c.from_residual-in_err-release.ensures.1 (by_read comma3 c.in_err-release.ensures.whole)
+
+pub returns-in_err-behind-clause-whole : goal.returns-in_err-behind-clause-whole
+returns-in_err-behind-clause-whole c = λ t rest h ends. let opened = passed _ (pad_step h) c.in_ok-behind_open_paren.ensures.whole in let io = was_read _ opened c.in_ok-io.ensures.whole in let comma = passed _ io c.in_ok-behind_comma.ensures.whole in let inner = was_read _ comma c.in_ok-inner.ensures.whole in let comma2 = passed _ inner c.in_ok-behind_comma-2.ensures.whole in let value = was_read _ comma2 c.in_ok-value.ensures.whole in let comma3 = passed _ value c.in_ok-behind_comma-3.ensures.whole in let release = was_read _ comma3 c.in_ok-release.ensures.whole in refuses release c.in_err-behind.ensures.whole
+
+pub returns-clause-whole : goal.returns-clause-whole
+returns-clause-whole c = λ t rest h ends. let opened = passed _ (pad_step h) c.in_ok-behind_open_paren.ensures.whole in let io = was_read _ opened c.in_ok-io.ensures.whole in let comma = passed _ io c.in_ok-behind_comma.ensures.whole in let inner = was_read _ comma c.in_ok-inner.ensures.whole in let comma2 = passed _ inner c.in_ok-behind_comma-2.ensures.whole in let value = was_read _ comma2 c.in_ok-value.ensures.whole in let comma3 = passed _ value c.in_ok-behind_comma-3.ensures.whole in let release = was_read _ comma3 c.in_ok-release.ensures.whole in let close = passed _ release c.in_ok-behind.ensures.whole in (close.1, close.0)

@@ -1,0 +1,10 @@
+use Rattle.std.proofs.Common.{◌↔◌, drop, map}
+use Rattle.std.specs.BTreeSet.{contains_text}
+use Rattle.lola_elab.specs.Small.{AreDistinct}
+use Rattle.lola_elab.proofs.NewNames.{AreNew}
+use Rattle.lola_app.proofs.NameRows.{names_of_rows}
+use Rattle.lola_app.proofs.names.are_distinct_rows.Given as goal
+
+-- the names behind are new ones
+abbrev pub invariant-loop-row : goal.invariant-loop-row
+invariant-loop-row l = AreNew (contains_text l.names) (names_of_rows (drop l.row-index l.rows)) ↔ AreDistinct (names_of_rows l.rows)

@@ -1,0 +1,18 @@
+use Rattle.std.proofs.Common.{map, string_bytes}
+use Rattle.tab_tree.specs.Table.{set_tree}
+use Rattle.lola_app.specs.declared.states.Shown.{Shown}
+use Rattle.lola_app.specs.Small.{IsSmallRow, IsNoName}
+use Rattle.lola_app.specs.Starts.{IsStartRow}
+use Rattle.lola_app.proofs.ByRow.{all_at, same_fault}
+use Rattle.lola_app.proofs.ShownStates.{each_row}
+use Rattle.lola_app.proofs.rows.each_start.Goals as goal
+
+pub returns-in-Err-clause-none : goal.returns-in-Err-clause-none
+returns-in-Err-clause-none c = λ e small.
+    c.in-Err.ensures.none (same_fault _ _ e)
+    (all_at (IsSmallRow (map (λ (s : Shown). string_bytes s.name) c.args.states.now) IsNoName) set_tree c.args.rows.now c.loop-row.row-index c.row-item.result c.loop-row-test.true c.row-item.is small)
+
+pub loop-row-preserved : goal.loop-row-preserved
+loop-row-preserved c =
+    each_row (IsStartRow c.args.states.now) set_tree c.args.rows.now c.loop-row.row-index c.row-item.result c.loop-row.starts.items c.push.new.self.items c.in-Ok.start
+    c.loop-row-test.true c.row-item.is c.in_ok-push-in-Ok.ensures.items c.loop-row.invariant c.in-Ok.ensures.ok

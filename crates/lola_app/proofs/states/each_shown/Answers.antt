@@ -1,0 +1,18 @@
+use Rattle.std.proofs.Common.{refl, sym, ◌∙◌, subst, map, take, ◌++◌, ◌∷◌, []}
+use Rattle.tab_tree.specs.Table.{state_tree, StateTree}
+use Rattle.lola_app.specs.Claiming.{AreEach, face_of}
+use Rattle.lola_app.specs.Shown.{IsShown}
+use Rattle.lola_app.specs.Small.{IsSmallState}
+use Rattle.lola_app.proofs.ByRow.{all_at, same_fault}
+use Rattle.lola_app.proofs.ShownStates.{each_row}
+use Rattle.lola_app.proofs.states.each_shown.Goals as goal
+
+pub returns-in-Err-clause-none : goal.returns-in-Err-clause-none
+returns-in-Err-clause-none c = λ e small.
+    c.in-Err.ensures.none (same_fault _ _ e)
+    (all_at (IsSmallState (face_of c.args.design.now).registers) state_tree c.args.rows.now c.loop-row.row-index c.row-item.result c.loop-row-test.true c.row-item.is small)
+
+pub loop-row-preserved : goal.loop-row-preserved
+loop-row-preserved c =
+    each_row (IsShown (face_of c.args.design.now)) state_tree c.args.rows.now c.loop-row.row-index c.row-item.result c.loop-row.all.items c.push.new.self.items c.in-Ok.shown
+    c.loop-row-test.true c.row-item.is c.in_ok-push-in-Ok.ensures.items c.loop-row.invariant c.in-Ok.ensures.ok

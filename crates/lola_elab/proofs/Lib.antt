@@ -1,0 +1,11 @@
+pub mod Bits
+pub mod LeafNumbers
+pub mod LeafScope
+pub mod Lists
+pub mod Names
+pub mod NewNames
+pub mod OneCycle
+pub mod Statements
+pub mod Steps
+pub mod WellDeclared
+pub mod Whole

@@ -1,0 +1,4 @@
+pub mod Fault
+pub mod Grammar
+pub mod Kept
+pub mod Read
