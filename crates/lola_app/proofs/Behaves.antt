@@ -1,5 +1,5 @@
 -- What a one-bit design does, over the names of its leaves.
-use Rattle.std.proofs.Common.{◌≡◌, ℕ, ◌+◌, ◌≤◌, Bool, true, false, List, [], ◌∷◌, ◌++◌, length, map, refl, sym, ap, ap₂, ◌∙◌, subst, arith, inl, inr, ◌⊎◌}
+use Rattle.std.proofs.Common.{◌≡◌, ℕ, ◌+◌, ◌≤◌, Bool, List, [], ◌∷◌, ◌++◌, length, map, refl, sym, ap, ap₂, ◌∙◌, subst, inl, inr, ◌⊎◌}
 use Rattle.std.proofs.lemmas.List.{map-append}
 use Rattle.std.specs.Prelude.{filter, ◌&&◌, not}
 use Rattle.lola_tree.specs.declared.named.Shape.{Shape}
@@ -10,22 +10,18 @@ use Rattle.lola_tree.specs.declared.module.Local.{Local}
 use Rattle.lola_elab.proofs.Lists.{from_map, to_map, from_filter, distinct_front, distinct_back}
 use Rattle.lola_tree.specs.Tree.{ModuleTree, SourceTree}
 use Rattle.lola_tree.specs.Value.{Path, Values}
-use Rattle.lola_tree.specs.Cycle.{IsIn, IsRoot, IsRegisterOf, IsInputOf, IsRegister, IsInput, IsState, IsGiven, Cycle, Next}
+use Rattle.lola_tree.specs.Cycle.{IsIn, IsRegisterOf, IsInputOf, IsRegister, IsInput, IsState, IsGiven, Cycle, Next}
 use Rattle.lola_tree.specs.Signals.{is_inward, is_among, clock_names, name_of_register, input_names, register_names, values_of, root_inputs, root_registers}
 use Rattle.lola_elab.specs.Logic.{AreBits}
 use Rattle.lola_elab.specs.Small.{AreDistinct, names_of, IsSmallSource}
 use Rattle.lola_elab.specs.Elaborated.{leaf_names, Elaborates}
 use Rattle.lola_elab.proofs.Bits.{root_is, below_two, suits_bit, register_bit, port_bit}
-use Rattle.lola_elab.proofs.Names.{is_register, register_listed, is_input, input_listed}
+use Rattle.lola_elab.proofs.Names.{is_register, is_input}
 use Rattle.lola_app.specs.declared.claim.Claim.{Claim}
 use Rattle.lola_app.specs.Claiming.{face_of, AreLeaves}
-use Rattle.lola_app.specs.Small.{Interface}
 use Rattle.lola_app.specs.Trial.{next_registers}
 use Rattle.lola_app.proofs.Leaves.{values_agree}
-
-either : (v : Bool) → (v ≡ true) ⊎ (v ≡ false)
-either true = inl refl
-either false = inr refl
+use Rattle.lola_app.proofs.Orders.{either}
 
 -- of distinct names some are distinct
 distinct_filter : {X : Type 0} (f : X → List ℕ) (test : X → Bool) (xs : List X) → AreDistinct (map f xs) → AreDistinct (map f (filter test xs))

@@ -1,6 +1,6 @@
 -- An obligation at a valuation, against its trial at the valuation's bits.
-use Rattle.std.proofs.Common.{◌≡◌, ◌≢◌, ℕ, zero, suc, ◌+◌, ◌-◌, ◌<◌, ◌≤◌, ◌^◌, Bool, true, false, not, cond, List, [], ◌∷◌, ◌++◌, length, map, take, drop, Some, None, refl, sym, ap, ap₂, ◌∙◌, subst, arith, inl, inr, ◌⊎◌, length-append}
-use Rattle.std.specs.Prelude.{slice_get, slice_index_or, ◌&&◌, if◌then◌else◌, nat_eq, string_bytes, bytes_eq}
+use Rattle.std.proofs.Common.{◌≡◌, ℕ, zero, suc, ◌+◌, ◌-◌, ◌<◌, ◌≤◌, ◌^◌, Bool, true, false, not, cond, List, [], ◌∷◌, ◌++◌, length, map, take, drop, Some, refl, sym, ap, ap₂, ◌∙◌, subst, arith, inl, inr, length-append}
+use Rattle.std.specs.Prelude.{slice_get, slice_index_or, ◌&&◌, if◌then◌else◌, string_bytes, bytes_eq}
 use Rattle.std.proofs.lemmas.Option.{slice_get_within}
 use Rattle.lola_elab.proofs.Lists.{from_filter}
 use Rattle.std.proofs.lemmas.List.{length-take-le, take-append-drop}
@@ -10,11 +10,10 @@ use Rattle.lola_tree.specs.Value.{Values, value}
 use Rattle.lola_tree.specs.Cycle.{IsIn, IsState, IsGiven, Cycle, Next}
 use Rattle.lola_tree.specs.Signals.{values_of, root_inputs, root_registers}
 use Rattle.lola_elab.specs.Logic.{logic_value, bit_number, AreBits}
-use Rattle.lola_elab.specs.Small.{IsSmallSource}
 use Rattle.lola_elab.specs.Elaborated.{HasOneCycle}
 use Rattle.tab_tree.specs.declared.table.Active.{Active}
 use Rattle.tab_tree.specs.Table.{active_value, idle_value, StateTree, SetTree, ClassTree, TableTree}
-use Rattle.tab_tree.specs.Step.{fits, IsClass, source_names, no_names, class_names, state_value, set_value, loaded_word}
+use Rattle.tab_tree.specs.Step.{fits, source_names, no_names, class_names, state_value, set_value, loaded_word}
 use Rattle.lola_app.specs.declared.claim.Claim.{Claim}
 use Rattle.lola_app.specs.declared.claim.State.{State}
 use Rattle.lola_app.specs.declared.claim.Start.{Start}
@@ -23,11 +22,11 @@ use Rattle.lola_app.specs.declared.obligation.Goal.{Goal as Tried}
 use Rattle.lola_app.specs.declared.obligation.Which.{Which}
 use Rattle.lola_app.specs.declared.obligation.Which.TheVariants as which
 use Rattle.lola_app.specs.Claiming.{face_of, AreLeaves, IsClaimedState, IsClaimedStart, IsClaimOf}
-use Rattle.lola_app.specs.Headline.{shown, shown_word, answer_of, IsActive, IsIdle}
+use Rattle.lola_app.specs.Headline.{shown, answer_of, IsActive, IsIdle}
 use Rattle.lola_app.specs.Obligations.{Goal, invariant, boundary, start, state, Obligation, cover, reset, ends, Valuation, IsValuation, ResetGoal, EndGoal, Premises, HoldsAt, IsViolatedAt, without, free_values}
 use Rattle.lola_app.specs.Trial.{same_bit, with_reset, next_registers, next_leaves, next_leaf, place_fits, reset_passes, end_passes, premises, passes, free_count}
 use Rattle.lola_app.proofs.Behaves.{Behaves}
-use Rattle.lola_app.proofs.Leaves.{length_map, same_bits, front_bits, both_bits, bits_long, put_in, take_out, behind_front, bits_in, are_bits, values_are_low, all_both, valued, valued_low, read_back, back_bits}
+use Rattle.lola_app.proofs.Leaves.{length_map, front_bits, both_bits, bits_long, put_in, take_out, behind_front, bits_in, are_bits, values_are_low, all_both, valued, valued_low, read_back}
 
 -- a trial at bits decides the obligation at the valuation with these bits
 pub record Decides (S : SourceTree) (T : TableTree) (claim : Claim) (o : Obligation) (which : Which) : Type 0 where

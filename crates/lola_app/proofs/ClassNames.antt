@@ -1,19 +1,15 @@
 -- What the names of a class mean over the leaves of a design.
-use Rattle.std.proofs.Common.{◌≡◌, ◌≢◌, ℕ, Bool, true, false, List, [], ◌∷◌, ◌++◌, map, Some, None, refl, sym, ap, ap₂, subst, ◌∙◌, inl, inr, ◌⊎◌}
-use Rattle.std.specs.Prelude.{bytes_eq, string_bytes, if◌then◌else◌, Option, slice_index_or, codes}
-use Rattle.std.specs.List.{AllByRecursion}
-use Rattle.lola_tree.specs.declared.named.Ref.{Ref}
-use Rattle.lola_tree.specs.Value.{Path, Values, value}
+use Rattle.std.proofs.Common.{◌≡◌, ◌≢◌, ℕ, Bool, true, false, List, [], ◌∷◌, ◌++◌, map, Some, None, refl, sym, ap, subst, ◌∙◌, inl, inr, ◌⊎◌}
+use Rattle.std.specs.Prelude.{bytes_eq, string_bytes, if◌then◌else◌, Option, codes}
+use Rattle.lola_tree.specs.Value.{Path, Values}
 use Rattle.lola_tree.specs.Cycle.{IsIn}
 use Rattle.lola_elab.specs.declared.scope.Reading.{Reading}
 use Rattle.lola_elab.specs.declared.scope.Reading.TheVariants as reading
 use Rattle.lola_elab.specs.declared.scope.Scope.{Scope}
-use Rattle.lola_elab.specs.Leaves.{shown as entered}
-use Rattle.lola_elab.specs.Logic.{bit_number}
-use Rattle.lola_elab.specs.Scope.{find, find_path, reading_of, HasReading, reading_number}
-use Rattle.lola_elab.proofs.Lists.{same_name, is_same_name, other_name, from_map, in_front, in_back, in_either}
+use Rattle.lola_elab.specs.Scope.{find, find_path, reading_number}
+use Rattle.lola_elab.proofs.Lists.{same_name, is_same_name, other_name, in_front, in_back, in_either}
 use Rattle.tab_tree.specs.Table.{StateTree, ClassTree, PhaseTree, TableTree}
-use Rattle.tab_tree.specs.Step.{class_names, bare_value, state_value, source_names, loaded_word, loads_first}
+use Rattle.tab_tree.specs.Step.{class_names, bare_value, state_value, loaded_word, loads_first}
 use Rattle.lola_app.specs.declared.states.Shown.{Shown}
 use Rattle.lola_app.specs.Claiming.{AreEach, AreLeaves}
 use Rattle.lola_app.specs.Classes.{IsTaken}
@@ -24,14 +20,8 @@ use Rattle.lola_app.specs.Shown.{IsShown, IsLoadedAt}
 use Rattle.lola_app.specs.Small.{Interface, IsInClass, IsClassName, state_names, is_taken}
 use Rattle.lola_app.specs.Starts.{leaf_under}
 use Rattle.lola_app.proofs.ScopeMeans.{no_path, bare_reading, source_reading, input_value, entered_under, names_shown, first_entry, find_entered, first_state, leaf_reading}
-use Rattle.lola_app.proofs.SetRows.{some_under}
-
-either : (v : Bool) → (v ≡ true) ⊎ (v ≡ false)
-either true = inl refl
-either false = inr refl
-
-not_none : {X : Type 0} (x : X) → None ≡ Some x → ⊥
-not_none x e = cc
+use Rattle.lola_app.proofs.Orders.{either}
+use Rattle.lola_app.proofs.Places.{not_none}
 
 -- two names are the same, or they differ
 same_or_not : (x y : List ℕ) → (x ≡ y) ⊎ (x ≢ y)

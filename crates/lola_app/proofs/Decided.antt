@@ -1,6 +1,5 @@
 -- What two texts lead to, from what trying the claim that was made of them came to.
-use Rattle.std.proofs.Common.{◌≡◌, ℕ, Bool, true, false, List, [], ◌∷◌, ◌++◌, length, map, refl, sym, ap, ap₂, ◌∙◌, subst}
-use Rattle.std.specs.Prelude.{string_bytes, nat_eq}
+use Rattle.std.proofs.Common.{◌≡◌, ℕ, Bool, List, [], ◌∷◌, length, map, refl, sym, ap, ap₂, ◌∙◌, subst}
 use Rattle.lola_tree.specs.Tree.{ModuleTree, SourceTree}
 use Rattle.lola_tree.specs.Value.{Values}
 use Rattle.lola_tree.specs.Cycle.{IsState, IsGiven}
@@ -11,13 +10,13 @@ use Rattle.lola_elab.specs.Elaborated.{Elaborates, HasOneCycle}
 use Rattle.tab_tree.specs.Table.{TableTree}
 use Rattle.lola_app.specs.declared.claim.Claim.{Claim}
 use Rattle.lola_app.specs.Accepts.{Fits, AcceptsTable}
-use Rattle.lola_app.specs.Claiming.{face_of, IsClaimOf}
+use Rattle.lola_app.specs.Claiming.{face_of}
 use Rattle.lola_app.specs.Headline.{Resets, Commutes}
 use Rattle.lola_app.specs.Listing.{named_of}
 use Rattle.lola_app.specs.Made.{IsDesignOf, IsTableOf}
-use Rattle.lola_app.specs.Obligations.{Obligation, obligations, AllHold, free_names, free_values}
+use Rattle.lola_app.specs.Obligations.{obligations, AllHold}
 use Rattle.lola_app.specs.Reply.{Line, Outcome, accepted, failed, wrong_words, source_not_built, table_not_built, unread, too_long, no_memory}
-use Rattle.lola_app.specs.Serve.{IsYes, IsNo, IsTableRefused, IsDecided, lines_of}
+use Rattle.lola_app.specs.Serve.{IsYes, IsNo, IsDecided, lines_of}
 use Rattle.lola_app.specs.Small.{Interface, interface_of, IsSmallTable}
 use Rattle.lola_app.specs.Tried.{bit_lines, printed_names, AllPass, OneFails, IsTried}
 use Rattle.lola_elab.proofs.Bits.{root_is}

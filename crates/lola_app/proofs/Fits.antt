@@ -1,34 +1,34 @@
 -- A claim of its parts, and what a table in the small form has for each part.
-use Rattle.std.proofs.Common.{◌≡◌, ℕ, ◌+◌, ◌≤◌, Bool, true, false, List, [], ◌∷◌, length, map, Some, None, refl, sym, ap, subst, ◌∙◌, inl, inr, ◌⊎◌, arith}
+use Rattle.std.proofs.Common.{◌≡◌, ℕ, ◌+◌, ◌≤◌, Bool, true, false, List, [], ◌∷◌, length, map, Some, None, refl, sym, ap, subst, ◌∙◌, inl, inr, arith}
 use Rattle.std.specs.Prelude.{string_bytes, Option, slice_index_or, bytes_eq}
 use Rattle.std.specs.List.{AllByRecursion}
 use Rattle.lola_tree.specs.declared.named.Ref.{Ref}
 use Rattle.lola_tree.specs.Tree.{Tree}
 use Rattle.lola_tree.specs.Value.{Values, value}
-use Rattle.lola_tree.specs.Cycle.{IsIn}
 use Rattle.lola_elab.specs.declared.logic.Logic.{Logic}
 use Rattle.lola_elab.specs.declared.scope.Scope.{Scope}
 use Rattle.lola_elab.specs.Logic.{logic_value, bit_number}
 use Rattle.lola_elab.specs.Scope.{HasReading, Reads}
-use Rattle.lola_elab.specs.Small.{IsSmallExpr, AreDistinct}
-use Rattle.tab_tree.specs.Table.{StateTree, SetTree, ClassTree, PhaseTree, TableTree}
-use Rattle.tab_tree.specs.Step.{source_names, no_names, class_names, set_value, loaded_word, loads_first}
+use Rattle.lola_elab.specs.Small.{IsSmallExpr}
+use Rattle.tab_tree.specs.Table.{StateTree, SetTree, ClassTree, TableTree}
+use Rattle.tab_tree.specs.Step.{source_names, class_names, set_value, loaded_word}
 use Rattle.lola_app.specs.declared.claim.Claim.{Claim}
 use Rattle.lola_app.specs.declared.claim.State.{State}
 use Rattle.lola_app.specs.declared.claim.Start.{Start}
 use Rattle.lola_app.specs.declared.roles.Roles.{Roles}
 use Rattle.lola_app.specs.declared.states.Shown.{Shown}
-use Rattle.lola_app.specs.Claiming.{face_of, AreEach, AreLeaves, MeansBit, IsClaimedState, IsClaimedStart, IsClaimOf}
+use Rattle.lola_app.specs.Claiming.{face_of, AreEach, MeansBit, IsClaimedState, IsClaimedStart, IsClaimOf}
 use Rattle.lola_app.specs.Classes.{IsPlainPhase, IsTaken}
 use Rattle.lola_app.specs.Fitting.{IsSetState}
 use Rattle.lola_app.specs.Headline.{shown, answer_of}
 use Rattle.lola_app.specs.Naming.{IsAt, IsScope}
 use Rattle.lola_app.specs.Scoping.{HasRegisters, HasClassNames}
 use Rattle.lola_app.specs.Shown.{IsShown, IsLoadedAt, AreRoles}
-use Rattle.lola_app.specs.Small.{Interface, IsSourceRegister, IsNoName, IsInClass, state_names, IsSmallRow, AreSmallRows, IsSmallClass, AreSmallStates, AreSmallRoles, IsSmallTable}
+use Rattle.lola_app.specs.Small.{Interface, IsSourceRegister, IsNoName, IsInClass, state_names, IsSmallRow, AreSmallRows, IsSmallClass, AreSmallStates, IsSmallTable}
 use Rattle.lola_app.specs.Starts.{leaf_under, IsStartRow}
 use Rattle.lola_app.proofs.ClassNames.{class_is_scope}
 use Rattle.lola_app.proofs.ScopeMeans.{small_map, registers_scope, shown_value, entered_under, names_shown}
+use Rattle.lola_app.proofs.Orders.{either}
 
 -- an expression that was read in a scope means the same over the leaves
 read_in : (face : Interface) (Names : Ref → Type 0) (names : Values → Values → Ref → ℕ) (scope : Scope) (e : Tree) (logic : Logic) → IsScope face Names names scope →
@@ -75,10 +75,6 @@ leaf_behind face (row ∷ rows) (x ∷ states) name leaf each under = elim (eith
   | inr other ↦ leaf_behind face rows states name leaf each.1 (sym (passed other) ∙ under)
 ]
   where
-    either : (v : Bool) → (v ≡ true) ⊎ (v ≡ false)
-    either true = inl refl
-    either false = inr refl
-
     taken : bytes_eq (string_bytes x.name) name ≡ true → leaf_under (x ∷ states) name ≡ Some x.leaf
     taken h = rw h refl
 

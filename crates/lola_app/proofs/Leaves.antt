@@ -1,6 +1,6 @@
 -- The values of names as lists of bits: taken apart, with one put in, and read back.
-use Rattle.std.proofs.Common.{◌≡◌, ◌≢◌, ℕ, zero, suc, ◌+◌, ◌-◌, ◌<◌, ◌≤◌, Bool, true, false, not, List, [], ◌∷◌, ◌++◌, length, map, take, drop, Some, None, refl, sym, ap, ap₂, ◌∙◌, subst, arith, inl, inr, ◌⊎◌}
-use Rattle.std.specs.Prelude.{filter, bytes_eq, slice_get, slice_index_or, nat_eq, if◌then◌else◌}
+use Rattle.std.proofs.Common.{◌≡◌, ℕ, zero, suc, ◌+◌, ◌-◌, ◌≤◌, Bool, true, false, List, [], ◌∷◌, ◌++◌, length, map, take, drop, Some, None, refl, sym, ap, ap₂, ◌∙◌, subst, arith, inl, inr}
+use Rattle.std.specs.Prelude.{bytes_eq, slice_index_or, nat_eq, if◌then◌else◌}
 use Rattle.std.specs.List.{AllByRecursion}
 use Rattle.std.proofs.lemmas.List.{map-append}
 use Rattle.std.proofs.Math.Seq.{get_or-append_right}
@@ -9,10 +9,13 @@ use Rattle.lola_tree.specs.Cycle.{IsIn}
 use Rattle.lola_tree.specs.Signals.{values_of}
 use Rattle.lola_elab.specs.Logic.{bit_number, AreBits}
 use Rattle.lola_elab.specs.Small.{AreDistinct}
-use Rattle.lola_elab.proofs.Lists.{same_name, is_same_name, other_name}
+use Rattle.lola_elab.proofs.Lists.{same_name, other_name}
 use Rattle.tab_tree.specs.Step.{name_of}
 use Rattle.lola_app.specs.Obligations.{without}
 use Rattle.lola_app.specs.Trial.{with_reset}
+use Rattle.lola_app.specs.Naming.{IsAt}
+use Rattle.lola_app.proofs.Orders.{either}
+use Rattle.lola_app.proofs.Places.{at_is_in}
 
 pub length_map : {X Y : Type 0} (f : X → Y) (xs : List X) → length (map f xs) ≡ length xs
 length_map f [] = refl
@@ -94,14 +97,6 @@ without_absent one (name ∷ names) absent =
     rw other (ap (λ (ns : List (List ℕ)). name ∷ ns) (without_absent one names (λ among. absent (inr among))))
 
 -- the bit of one name put in at its place, or taken out there
-abbrev pub IsAt : List (List ℕ) → ℕ → List ℕ → Type 0
-IsAt names place one = slice_get names place ≡ Some one
-
-at_is_in : (names : List (List ℕ)) (place : ℕ) (one : List ℕ) → IsAt names place one → IsIn one names
-at_is_in [] place one e = absurd (let f : None ≡ Some one = e in cc)
-at_is_in (name ∷ names) zero one e = inl (let f : Some name ≡ Some one = e in cc)
-at_is_in (name ∷ names) (suc place) one e = inr (at_is_in names place one e)
-
 pub put_in : (v : Values) (names : List (List ℕ)) (others : List ℕ) (one : List ℕ) (place : ℕ) (bit : Bool) (bits : List Bool) → AreDistinct names → IsAt names place one →
     v (one ∷ []) ≡ bit_number bit → AreBits (values_of v (without one names) ++ others) bits → AreBits (values_of v names ++ others) (with_reset place bit bits)
 put_in v [] others one place bit bits distinct at is free = absurd (let f : None ≡ Some one = at in cc)
@@ -159,10 +154,6 @@ valued names bits path = bit_of names bits (name_of path)
 bit_low : (b : Bool) → bit_number b ≤ 1
 bit_low true = omega arith
 bit_low false = omega arith
-
-either : (v : Bool) → (v ≡ true) ⊎ (v ≡ false)
-either true = inl refl
-either false = inr refl
 
 bit_of_low : (names : List (List ℕ)) (bits : List Bool) (name : List ℕ) → bit_of names bits name ≤ 1
 bit_of_low [] bits name = omega arith

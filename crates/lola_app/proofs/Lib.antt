@@ -1,6 +1,7 @@
 pub mod Appends
 pub mod Lists
-pub mod Orders
+pub mod OneAnswer
+mod Orders
 pub mod ThreeItems
 mod ByRow
 mod Printed

@@ -54,7 +54,7 @@ number [] = 0
 number (false ∷ w) = number w
 number (true ∷ w) = 2 ^ length w + number w
 
-either : (v : Bool) → (v ≡ true) ⊎ (v ≡ false)
+pub either : (v : Bool) → (v ≡ true) ⊎ (v ≡ false)
 either true = inl refl
 either false = inr refl
 

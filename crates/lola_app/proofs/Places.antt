@@ -1,6 +1,6 @@
 -- Names at places of lists.
-use Rattle.std.proofs.Common.{◌≡◌, ◌≢◌, ℕ, zero, suc, ◌+◌, ◌<◌, Bool, true, false, List, [], ◌∷◌, length, map, get_or, drop, Some, None, refl, sym, ◌∙◌, ap, subst, inl, inr}
-use Rattle.std.specs.Prelude.{slice_get, bytes_eq, Option}
+use Rattle.std.proofs.Common.{◌≡◌, ◌≢◌, ℕ, zero, suc, ◌+◌, ◌<◌, true, false, List, [], ◌∷◌, length, map, get_or, drop, Some, None, refl, sym, ◌∙◌, ap, subst, inl, inr}
+use Rattle.std.specs.Prelude.{bytes_eq}
 use Rattle.std.proofs.lemmas.Option.{slice_get_read, slice_get-map}
 use Rattle.std.specs.Option.{option_map}
 use Rattle.lola_tree.specs.Cycle.{IsIn}
@@ -10,6 +10,9 @@ use Rattle.tab_tree.specs.Table.{TableTree}
 use Rattle.lola_app.specs.declared.roles.Roles.{Roles}
 use Rattle.lola_app.specs.Naming.{IsAt}
 use Rattle.lola_app.specs.Shown.{AreRoles, IsLoadedAt}
+
+pub not_none : {X : Type 0} (x : X) → None ≡ Some x → ⊥
+not_none x e = cc
 
 pub at_place : {X : Type 0} (f : X → List ℕ) (xs : List X) (i : ℕ) (x : X) (name : List ℕ) → i < length xs → x ≡ get_or xs i x → f x ≡ name → IsAt (map f xs) i name
 at_place f xs i x name within is named =

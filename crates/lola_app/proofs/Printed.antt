@@ -1,7 +1,7 @@
 -- Names of free bits as they are printed.
-use Rattle.std.proofs.Common.{◌≡◌, ℕ, zero, suc, ◌+◌, ◌≤◌, Bool, true, false, not, List, [], ◌∷◌, ◌++◌, length, map, take, drop, Some, None, refl, sym, ap, ap₂, subst, ◌∙◌, arith, append_assoc, append-nil, inl, inr}
-use Rattle.std.specs.Prelude.{min, string_bytes, codes, bytes_eq, nat_eq, filter}
-use Rattle.std.proofs.lemmas.List.{map-append, drop_all, drop-drop}
+use Rattle.std.proofs.Common.{◌≡◌, ℕ, zero, suc, ◌+◌, ◌≤◌, Bool, List, [], ◌∷◌, ◌++◌, length, map, take, drop, refl, sym, ap, ◌∙◌, arith, append_assoc, append-nil}
+use Rattle.std.specs.Prelude.{min}
+use Rattle.std.proofs.lemmas.List.{map-append, drop_all}
 use Rattle.lola_app.specs.Reply.{Line}
 use Rattle.lola_app.specs.Tried.{bit_lines}
 

@@ -1,11 +1,11 @@
 -- The one reading of a text, against what was read.
-use Rattle.std.proofs.Common.{◌≡◌, ◌≢◌, ℕ, List, refl, sym, subst, ◌∙◌}
+use Rattle.std.proofs.Common.{◌≡◌, ◌≢◌, ℕ, List, refl, subst}
 use Rattle.lola_tree.specs.Tree.{SourceTree}
 use Rattle.lola_scan.specs.declared.token.Token.{Token}
 use Rattle.lola_scan.specs.declared.token.ScanError.{ScanError}
 use Rattle.lola_scan.specs.declared.token.ScanError.TheVariants as scan
-use Rattle.lola_scan.specs.Tokens.{Spells, Fails, Scanned, HasOneReading}
-use Rattle.std.specs.Prelude.{Result, Ok, Err}
+use Rattle.lola_scan.specs.Tokens.{Spells, Scanned, HasOneReading}
+use Rattle.std.specs.Prelude.{Err}
 use Rattle.lola_parse.specs.declared.symbol.Language.TheVariants.{Design, Table}
 use Rattle.lola_parse.specs.Symbols.{Item, items_of}
 use Rattle.lola_parse.specs.Design.{SpellsSource}

@@ -1,8 +1,6 @@
 -- What the names of scopes mean over the leaves of a design.
-use Rattle.std.proofs.Common.{◌≡◌, ◌≢◌, ℕ, zero, suc, ◌+◌, ◌-◌, ◌<◌, ◌≤◌, Bool, true, false, List, [], ◌∷◌, ◌++◌, length, map, drop, take, Some, None, refl, sym, ap, ap₂, subst, ◌∙◌, arith, inl, inr, ◌⊎◌}
-use Rattle.std.specs.Prelude.{bytes_eq, string_bytes, if◌then◌else◌, Option, slice_index_or, slice_get, codes}
-use Rattle.std.specs.List.{AllByRecursion}
-use Rattle.lola_bits.specs.declared.op.Op.{Op}
+use Rattle.std.proofs.Common.{◌≡◌, ℕ, zero, suc, ◌+◌, Bool, true, false, List, [], ◌∷◌, ◌++◌, length, map, Some, None, refl, sym, ap, ap₂, ◌∙◌, arith, inl, inr}
+use Rattle.std.specs.Prelude.{bytes_eq, string_bytes, if◌then◌else◌, Option, slice_index_or}
 use Rattle.lola_tree.specs.declared.named.Ref.{Ref}
 use Rattle.lola_tree.specs.Tree.{Tree, number, whole, bit, slice, index, concat, negation, binary, choice}
 use Rattle.lola_tree.specs.Value.{Path, Values, value}
@@ -17,17 +15,18 @@ use Rattle.lola_elab.specs.Leaves.{shown as entered}
 use Rattle.lola_elab.specs.Logic.{bit_number, AreBits}
 use Rattle.lola_elab.specs.Scope.{find, find_path, reading_of, HasReading, reading_number, Reads}
 use Rattle.lola_elab.specs.Small.{IsSmallExpr}
-use Rattle.lola_elab.proofs.Lists.{same_name, is_same_name, other_name}
-use Rattle.tab_tree.specs.Table.{StateTree, ClassTree, PhaseTree, TableTree}
-use Rattle.tab_tree.specs.Step.{source_names, no_names, class_names, bare_value, state_value, loaded_word, loads_first, name_of}
+use Rattle.lola_elab.proofs.Lists.{same_name, is_same_name}
+use Rattle.tab_tree.specs.Table.{StateTree}
+use Rattle.tab_tree.specs.Step.{source_names, state_value}
 use Rattle.lola_app.specs.declared.states.Shown.{Shown}
 use Rattle.lola_app.specs.Claiming.{AreEach, AreLeaves}
-use Rattle.lola_app.specs.Headline.{shown, answer_of, role_value}
 use Rattle.lola_app.specs.Naming.{IsAt, IsScope}
-use Rattle.lola_app.specs.Scoping.{HasRegisters, HasClassNames, Entered, loaded_entry, state_entries}
-use Rattle.lola_app.specs.Shown.{IsSourceName, IsShown, IsLoadedAt}
+use Rattle.lola_app.specs.Scoping.{HasRegisters, Entered, state_entries}
+use Rattle.lola_app.specs.Shown.{IsSourceName, IsShown}
 use Rattle.lola_app.specs.Starts.{leaf_under}
-use Rattle.lola_app.specs.Small.{Interface, IsSourceRegister, IsNoName, IsInClass, IsClassName, state_names, is_taken}
+use Rattle.lola_app.specs.Small.{Interface, IsSourceRegister}
+use Rattle.lola_app.proofs.Orders.{either}
+use Rattle.lola_app.proofs.Places.{not_none, at_is_in}
 
 -- an expression over some names is one over more names
 pub small_map : (P Q : Ref → Type 0) → ((r : Ref) → P r → Q r) → (e : Tree) → IsSmallExpr P e → IsSmallExpr Q e
@@ -40,13 +39,6 @@ small_map P Q f (bit of place at) is = absurd is
 small_map P Q f (slice of high low at) is = absurd is
 small_map P Q f (index of place at) is = absurd is
 small_map P Q f (concat parts at) is = absurd is
-
-either : (v : Bool) → (v ≡ true) ⊎ (v ≡ false)
-either true = inl refl
-either false = inr refl
-
-not_none : {X : Type 0} (x : X) → None ≡ Some x → ⊥
-not_none x e = cc
 
 -- nothing stands in an empty list
 pub no_path : (entries : List Entry) (path : Path) (r : Reading) → entries ≡ [] → find_path entries path ≡ Some r → ⊥
@@ -170,11 +162,6 @@ leaf_there (e ∷ entries) n (x ∷ names) name are among = elim (either (bytes_
     later : bytes_eq (string_bytes e.name) name ≡ false → string_bytes e.name ≡ x → IsIn name (x ∷ names) → IsIn name names
     later off there (inl same) = let f : true ≡ false = sym (same_name (string_bytes e.name) name (there ∙ sym same)) ∙ off in absurd cc
     later off there (inr more) = more
-
-at_is_in : (names : List (List ℕ)) (place : ℕ) (name : List ℕ) → IsAt names place name → IsIn name names
-at_is_in [] place name e = absurd (not_none name e)
-at_is_in (x ∷ xs) zero name e = inl (let f : Some x ≡ Some name = e in cc)
-at_is_in (x ∷ xs) (suc place) name e = inr (at_is_in xs place name e)
 
 -- the scope of the registers
 pub registers_scope : (face : Interface) (scope : Scope) → HasRegisters (length face.inputs) face.registers scope → IsScope face (IsSourceRegister face.registers) (λ s inp. source_names s) scope

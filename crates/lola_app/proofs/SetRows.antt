@@ -1,5 +1,5 @@
 -- Rows that set states, and the states that they name.
-use Rattle.std.proofs.Common.{◌≡◌, ℕ, zero, suc, ◌+◌, ◌<◌, Bool, true, false, List, [], ◌∷◌, length, map, drop, get_or, Some, None, refl, sym, ap, subst, ◌∙◌, inl, inr, ◌⊎◌}
+use Rattle.std.proofs.Common.{◌≡◌, ℕ, ◌<◌, Bool, true, false, List, [], ◌∷◌, length, map, drop, get_or, Some, None, refl, sym, ap, ◌∙◌, inl, inr}
 use Rattle.std.specs.Prelude.{bytes_eq, string_bytes, if◌then◌else◌, Option}
 use Rattle.lola_tree.specs.declared.named.Ref.{Ref}
 use Rattle.lola_tree.specs.Tree.{tree}
@@ -17,6 +17,7 @@ use Rattle.lola_app.specs.declared.claim.Start.{Start}
 use Rattle.lola_app.specs.Claiming.{AreEach}
 use Rattle.lola_app.specs.Small.{IsSmallRow, IsNoName}
 use Rattle.lola_app.specs.Starts.{leaf_under, IsStartRow}
+use Rattle.lola_app.proofs.Orders.{either}
 
 -- the row at an index sets the state, and those before it don't count
 pub at_row : (rows : List SetRow) (i : ℕ) (row : SetRow) (name : List ℕ) (old : ℕ) (names : Ref → ℕ) → i < length rows → row ≡ get_or rows i row → bytes_eq row.name name ≡ true →
@@ -28,10 +29,6 @@ taken_on b l leaf on is = rw on (sym is)
 
 pub taken_off : (b : Bool) (l : Option ℕ) → b ≡ false → None ≡ (if b then l else None)
 taken_off b l off = rw off refl
-
-either : (v : Bool) → (v ≡ true) ⊎ (v ≡ false)
-either true = inl refl
-either false = inr refl
 
 -- a leaf stands under the names of states alone
 pub none_under : (states : List Shown) (name : List ℕ) → leaf_under states name ≡ None → IsIn name (map (λ (s : Shown). string_bytes s.name) states) → ⊥

@@ -1,5 +1,5 @@
 -- What deciding a claim says of the table's obligations.
-use Rattle.std.proofs.Common.{◌≡◌, ℕ, zero, suc, ◌+◌, ◌-◌, ◌<◌, ◌≤◌, Bool, true, false, not, List, [], ◌∷◌, ◌++◌, length, map, take, drop, Some, None, refl, sym, ap, ap₂, ◌∙◌, subst, arith, append_assoc, inl, inr, ◌⊎◌}
+use Rattle.std.proofs.Common.{◌≡◌, ℕ, zero, suc, ◌+◌, Bool, true, false, List, [], ◌∷◌, ◌++◌, length, map, take, drop, Some, None, refl, sym, ap, ap₂, ◌∙◌, subst, arith, append_assoc, inl, inr}
 use Rattle.std.specs.Prelude.{slice_get, flat_map, codes, string_bytes, decimal}
 use Rattle.std.specs.List.{AllByRecursion}
 use Rattle.std.proofs.lemmas.Fmt.{decimal_digit}
@@ -14,14 +14,12 @@ use Rattle.lola_app.specs.declared.claim.State.{State}
 use Rattle.lola_app.specs.declared.claim.Start.{Start}
 use Rattle.lola_app.specs.declared.obligation.Obligation.{Obligation as Listed}
 use Rattle.lola_app.specs.declared.obligation.Goal.TheVariants as goal
-use Rattle.lola_app.specs.declared.obligation.Which.TheVariants as which
 use Rattle.lola_app.specs.Claiming.{face_of, AreEach, IsClaimedState, IsClaimedStart, IsClaimOf}
 use Rattle.lola_app.specs.Deciding.{PassesAlways, IsFirstFailing}
-use Rattle.lola_app.specs.Listing.{Named, named_of, start_obligations, state_obligations, reset_obligations, listed}
+use Rattle.lola_app.specs.Listing.{Named, named_of, start_obligations, state_obligations, listed}
 use Rattle.lola_app.specs.Listing.{class_obligations as listed_class}
-use Rattle.lola_app.specs.Obligations.{Obligation, cover, reset, ends, invariant, boundary, start, state, class_obligations, obligations, obligation_name, Valuation, IsValuation, HoldsAt, HoldsAlways, AllHold, free_inputs, without, free_names, free_values, ComesBefore, IsLeastViolation}
+use Rattle.lola_app.specs.Obligations.{Obligation, reset, ends, invariant, boundary, start, state, class_obligations, obligations, obligation_name, Valuation, HoldsAlways, AllHold, free_inputs, without, free_names, free_values, ComesBefore, IsLeastViolation}
 use Rattle.lola_app.specs.Tried.{free_leaves, printed_names}
-use Rattle.lola_app.specs.Trial.{passes, free_count}
 use Rattle.lola_app.proofs.Leaves.{without_at}
 use Rattle.lola_tree.specs.Signals.{root_registers}
 use Rattle.lola_app.specs.Valuations.{Before}

@@ -1,5 +1,5 @@
 -- The obligations of a table on a design: each speaks of one cycle.
-use Rattle.std.specs.Prelude.{◌≡◌, ◌⊎◌, ℕ, ◌^◌, ◌<◌, Bool, true, false, not, nat_eq, List, [], ◌∷◌, ◌++◌, map, filter, flat_map, bytes_eq, codes, decimal}
+use Rattle.std.specs.Prelude.{◌≡◌, ◌⊎◌, ℕ, ◌^◌, ◌<◌, true, not, List, [], ◌∷◌, ◌++◌, map, filter, flat_map, bytes_eq, codes, decimal}
 use Rattle.std.specs.List.{AllByRecursion}
 use Rattle.lola_tree.specs.Tree.{SourceTree}
 use Rattle.lola_tree.specs.Value.{Values, value}

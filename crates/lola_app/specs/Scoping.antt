@@ -1,5 +1,5 @@
 -- The entries of the scopes of a table.
-use Rattle.std.specs.Prelude.{◌≡◌, ℕ, Bool, false, List, [], ◌∷◌, ◌++◌, map, codes, Option, Some, None, string_bytes}
+use Rattle.std.specs.Prelude.{◌≡◌, ℕ, false, List, [], ◌∷◌, ◌++◌, codes, Option, Some, None, string_bytes}
 use Rattle.lola_elab.specs.declared.scope.Reading.{Reading}
 use Rattle.lola_elab.specs.declared.scope.Reading.TheVariants as reading
 use Rattle.lola_elab.specs.declared.scope.Scope.{Scope}

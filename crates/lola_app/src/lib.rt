@@ -33,5 +33,5 @@ mod status;
 mod words;
 
 pub use command::serve;
-pub use laws::headline;
+pub use laws::{headline, one_answer, one_spelling};
 pub use status::{Status, status_number};

@@ -1,5 +1,5 @@
-use Rattle.std.proofs.Common.{◌≡◌, ℕ, List, [], ◌∷◌, refl, sym, ap, subst, ◌∙◌, map, length, string_bytes}
-use Rattle.tab_tree.specs.Table.{table_tree, class_tree, phase_tree, state_tree, set_tree, ClassTree, TableTree}
+use Rattle.std.proofs.Common.{◌≡◌, [], ◌∷◌, refl, sym, ap, subst, ◌∙◌, map, length, string_bytes}
+use Rattle.tab_tree.specs.Table.{table_tree, class_tree, phase_tree, state_tree, set_tree}
 use Rattle.std.specs.List.{AllByRecursion}
 use Rattle.lola_elab.specs.Scope.{HasReading}
 use Rattle.lola_app.specs.declared.states.Shown.{Shown}
@@ -8,10 +8,10 @@ use Rattle.lola_app.specs.Classes.{IsPlainPhase, IsTaken}
 use Rattle.lola_app.specs.Fitting.{IsSetState}
 use Rattle.lola_app.specs.Scoping.{HasRegisters, HasClassNames}
 use Rattle.lola_app.specs.Shown.{IsShown, AreRoles}
-use Rattle.lola_app.specs.Small.{Interface, IsNoName, IsSmallRow, AreSmallRows, AreSmallStates, IsSmallClass}
+use Rattle.lola_app.specs.Small.{IsNoName, IsSmallRow, AreSmallRows, AreSmallStates}
 use Rattle.lola_app.specs.Starts.{IsStartRow}
 use Rattle.lola_app.proofs.ByRow.{same_fault}
-use Rattle.lola_app.proofs.Fits.{Parts, claim_is, class_small, one_place_of, plain_of, registers_read, sets_read, starts_read}
+use Rattle.lola_app.proofs.Fits.{claim_is, class_small, one_place_of, plain_of, registers_read, sets_read, starts_read}
 use Rattle.lola_app.proofs.Leaves.{length_map}
 use Rattle.lola_app.proofs.claim.fit.Goals as goal
 

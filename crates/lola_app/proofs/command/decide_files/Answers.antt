@@ -1,8 +1,8 @@
-use Rattle.std.proofs.Common.{◌≡◌, ℕ, List, Some, refl, sym, subst, ◌∙◌, ◌≤◌, length, string_bytes}
+use Rattle.std.proofs.Common.{◌≡◌, ℕ, List, Some, refl, subst, string_bytes}
 use Rattle.std.specs.Prelude.{Option, IfSome}
 use Rattle.lola_port.specs.Outside.{Files, lookup}
 use Rattle.lola_app.specs.Reply.{outcome_of}
-use Rattle.lola_app.specs.Serve.{IsDecided, text_limit}
+use Rattle.lola_app.specs.Serve.{IsDecided}
 use Rattle.lola_app.proofs.Due.{due_decided}
 use Rattle.lola_app.proofs.command.decide_files.Goals as goal
 

@@ -1,4 +1,4 @@
-use Rattle.std.proofs.Common.{◌↔◌, drop, map}
+use Rattle.std.proofs.Common.{◌↔◌, drop}
 use Rattle.std.specs.BTreeSet.{contains_text}
 use Rattle.lola_elab.specs.Small.{AreDistinct}
 use Rattle.lola_elab.proofs.NewNames.{AreNew}

@@ -1,4 +1,4 @@
-use Rattle.std.proofs.Common.{ℕ, List, take, map, string_bytes}
+use Rattle.std.proofs.Common.{take, map, string_bytes}
 use Rattle.std.specs.List.{AllByRecursion}
 use Rattle.lola_elab.specs.Scope.{HasReading}
 use Rattle.tab_tree.specs.Table.{set_tree}

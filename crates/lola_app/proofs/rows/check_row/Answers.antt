@@ -1,4 +1,4 @@
-use Rattle.std.proofs.Common.{◌≡◌, sym, ◌∙◌, ap, Some, None}
+use Rattle.std.proofs.Common.{sym, ◌∙◌, ap}
 use Rattle.lola_app.specs.Starts.{leaf_under}
 use Rattle.lola_app.proofs.SetRows.{none_under, some_under}
 use Rattle.lola_app.proofs.rows.check_row.Goals as goal

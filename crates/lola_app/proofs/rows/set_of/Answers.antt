@@ -1,4 +1,4 @@
-use Rattle.std.proofs.Common.{◌≡◌, ℕ, Bool, true, false, List, ap, ap₂, sym, ◌∙◌, map, string_bytes}
+use Rattle.std.proofs.Common.{◌≡◌, ℕ, Bool, true, false, List, ap₂, sym, ◌∙◌, map, string_bytes}
 use Rattle.std.specs.Prelude.{bytes_eq, slice_index_or}
 use Rattle.std.proofs.lemmas.Result.{IfOk-weaker}
 use Rattle.lola_tree.specs.declared.named.Ref.{Ref}

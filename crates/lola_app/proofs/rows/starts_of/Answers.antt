@@ -1,4 +1,4 @@
-use Rattle.std.proofs.Common.{refl, map, string_bytes}
+use Rattle.std.proofs.Common.{map, string_bytes}
 use Rattle.std.proofs.lemmas.Result.{IfOk-weaker}
 use Rattle.tab_tree.specs.Table.{set_tree}
 use Rattle.lola_app.specs.declared.states.Shown.{Shown}

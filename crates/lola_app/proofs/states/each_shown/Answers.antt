@@ -1,6 +1,5 @@
-use Rattle.std.proofs.Common.{refl, sym, ◌∙◌, subst, map, take, ◌++◌, ◌∷◌, []}
-use Rattle.tab_tree.specs.Table.{state_tree, StateTree}
-use Rattle.lola_app.specs.Claiming.{AreEach, face_of}
+use Rattle.tab_tree.specs.Table.{state_tree}
+use Rattle.lola_app.specs.Claiming.{face_of}
 use Rattle.lola_app.specs.Shown.{IsShown}
 use Rattle.lola_app.specs.Small.{IsSmallState}
 use Rattle.lola_app.proofs.ByRow.{all_at, same_fault}

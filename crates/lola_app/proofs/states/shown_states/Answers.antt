@@ -1,4 +1,4 @@
-use Rattle.std.proofs.Common.{refl, map, length, arith, ◌≤◌}
+use Rattle.std.proofs.Common.{map, arith}
 use Rattle.std.proofs.lemmas.Result.{IfOk-weaker}
 use Rattle.tab_tree.specs.Table.{state_tree}
 use Rattle.lola_app.specs.Claiming.{face_of, AreEach}

@@ -1,6 +1,5 @@
-use Rattle.std.proofs.Common.{ap, refl, sym, subst, ◌∙◌}
+use Rattle.std.proofs.Common.{ap}
 use Rattle.std.specs.Prelude.{Err}
-use Rattle.lola_tree.specs.Tree.{ModuleTree}
 use Rattle.lola_app.proofs.Decided.{decided, small_face}
 use Rattle.lola_app.proofs.texts.decide_texts.Goals as goal
 

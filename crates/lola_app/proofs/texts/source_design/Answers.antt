@@ -1,4 +1,4 @@
-use Rattle.std.proofs.Common.{ℕ, List, sym, ap, subst}
+use Rattle.std.proofs.Common.{List, sym, ap, subst}
 use Rattle.std.specs.Prelude.{Err}
 use Rattle.lola_parse.specs.declared.symbol.Language.TheVariants.{Design}
 use Rattle.lola_parse.specs.Symbols.{items_of}

@@ -1,9 +1,9 @@
-use Rattle.std.proofs.Common.{◌≡◌, ℕ, List, sym, ap, subst}
+use Rattle.std.proofs.Common.{◌≡◌, List, sym, ap, subst}
 use Rattle.std.specs.Prelude.{Err}
 use Rattle.lola_parse.specs.declared.symbol.Language.TheVariants.{Table}
 use Rattle.lola_parse.specs.Symbols.{items_of}
 use Rattle.lola_scan.specs.declared.token.Token.{Token}
-use Rattle.tab_tree.specs.Table.{table_tree, TableTree}
+use Rattle.tab_tree.specs.Table.{table_tree}
 use Rattle.tab_read.specs.Grammar.{SpellsTable}
 use Rattle.lola_app.specs.Claiming.{face_of}
 use Rattle.lola_app.specs.Small.{IsSmallTable}

@@ -1,4 +1,4 @@
-use Rattle.std.proofs.Common.{◌≡◌, ℕ, List, [], ◌++◌, ◌+◌, refl, sym, ap, ap₂, ◌∙◌, map, take, drop, length, string_bytes, codes}
+use Rattle.std.proofs.Common.{◌≡◌, ℕ, List, ◌++◌, ◌+◌, ap, ap₂, ◌∙◌, map, take, drop, length, string_bytes, codes}
 use Rattle.std.specs.Prelude.{min}
 use Rattle.lola_app.proofs.Printed.{take_min, drop_min, map_take, map_drop, three_lists}
 use Rattle.lola_app.proofs.trial.cycle_names.Goals as goal

@@ -1,4 +1,4 @@
-use Rattle.std.proofs.Common.{◌≡◌, Bool, List, refl, sym, ap, ap₂, subst, ◌∙◌, string_bytes}
+use Rattle.std.proofs.Common.{◌≡◌, Bool, List, ap, ap₂, subst, ◌∙◌, string_bytes}
 use Rattle.std.proofs.lemmas.Option.{get_or_from_slice_get}
 use Rattle.lola_app.specs.declared.obligation.Obligation.{Obligation}
 use Rattle.lola_app.specs.Deciding.{IsDecidedBy, IsFirstFailing}

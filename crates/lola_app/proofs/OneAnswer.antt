@@ -1,0 +1,175 @@
+-- Two texts lead to one answer.
+use Rattle.std.proofs.Common.{◌≡◌, ◌≢◌, ℕ, ◌+◌, ◌<◌, ◌≤◌, List, [], ◌∷◌, ◌++◌, length, refl, sym, ap, ap₂, ◌∙◌, subst, arith, inl, inr, ◌⊎◌, length-append}
+use Rattle.std.specs.List.{AllByRecursion}
+use Rattle.std.proofs.lemmas.Bool.{cases_lt}
+use Rattle.lola_tree.specs.Tree.{SourceTree}
+use Rattle.lola_tree.specs.Signals.{values_of, root_registers}
+use Rattle.lola_scan.specs.Tokens.{HasOneReading}
+use Rattle.lola_parse.specs.declared.symbol.Language.TheVariants.{Design, Table}
+use Rattle.lola_parse.specs.Symbols.{Item, items_of}
+use Rattle.lola_parse.specs.Design.{SpellsSource}
+use Rattle.tab_tree.specs.Table.{TableTree}
+use Rattle.tab_read.specs.Grammar.{SpellsTable}
+use Rattle.lola_app.specs.Accepts.{Accepts, IsSpelled, AcceptsTable}
+use Rattle.lola_app.specs.Obligations.{Obligation, cover, reset, ends, obligations, obligation_name, Valuation, HoldsAt, IsViolatedAt, HoldsAlways, free_inputs, free_names, free_values, ComesBefore, IsLeastViolation}
+use Rattle.lola_app.specs.Reply.{Line, Outcome, accepted, failed, wrong_words, source_not_built, table_not_built, unread, too_long, no_memory}
+use Rattle.lola_app.specs.Serve.{IsYes, IsNo, IsTableRefused, IsDecided, lines_of}
+use Rattle.lola_app.proofs.Leaves.{length_map}
+use Rattle.lola_app.proofs.Readings.{source_of, table_of}
+
+-- the laws that one answer stands on
+abbrev pub OneReadingLaw : Type 0
+OneReadingLaw = (text : List ℕ) → HasOneReading text
+
+abbrev pub OneTreeLaw : Type 0
+OneTreeLaw = (all : List Item) (t u : SourceTree) → SpellsSource all t → SpellsSource all u → t ≡ u
+
+abbrev pub OneTableLaw : Type 0
+OneTableLaw = (all : List Item) (T U : TableTree) → SpellsTable all T → SpellsTable all U → T ≡ U
+
+pub one_source : OneReadingLaw → OneTreeLaw → (bytes : List ℕ) (S R : SourceTree) → Accepts bytes S → Accepts bytes R → S ≡ R
+one_source reading tree bytes S R s r = tree (items_of Design bytes r.tokens) S R (source_of bytes r.tokens S (reading bytes) r.spells s) r.source
+
+pub one_table : OneReadingLaw → OneTableLaw → (bytes : List ℕ) (T U : TableTree) → IsSpelled bytes T → IsSpelled bytes U → T ≡ U
+one_table reading table bytes T U t u = table (items_of Table bytes u.tokens) T U (table_of bytes u.tokens T (reading bytes) u.spells t) u.table
+
+-- an obligation isn't both kept and violated
+pub not_both : (S : SourceTree) (T : TableTree) (o : Obligation) (w : Valuation) → HoldsAt S T o w → IsViolatedAt S T o w → ⊥
+not_both S T cover w holds violated = violated holds.0 holds.1
+not_both S T (reset goal) w holds (v, (s', cycle, next, off)) = off (holds v s' cycle next)
+not_both S T (ends c phase goal) w holds (v, (s', cycle, next, premises, off)) = off (holds v s' cycle next premises)
+
+-- so where all hold none is violated
+holds_in : (S : SourceTree) (T : TableTree) (before later : List Obligation) (o : Obligation) → AllByRecursion (HoldsAlways S T) (before ++ o ∷ later) → HoldsAlways S T o
+holds_in S T [] later o all = all.0
+holds_in S T (x ∷ before) later o all = holds_in S T before later o all.1
+
+-- the first that is violated is one
+first_is_one : (S : SourceTree) (T : TableTree) (before before' later later' : List Obligation) (o p : Obligation) (w u : Valuation) → before ++ o ∷ later ≡ before' ++ p ∷ later' →
+    AllByRecursion (HoldsAlways S T) before → AllByRecursion (HoldsAlways S T) before' → IsLeastViolation S T o w → IsLeastViolation S T p u → o ≡ p
+first_is_one S T [] [] later later' o p w u e all all' least least' = cc
+first_is_one S T [] (y ∷ before') later later' o p w u e all all' least least' =
+    let same : o ≡ y = cc in
+    absurd (not_both S T o w (subst (HoldsAlways S T) (sym same) all'.0 w least.suits) least.violated)
+first_is_one S T (x ∷ before) [] later later' o p w u e all all' least least' =
+    let same : x ≡ p = cc in
+    absurd (not_both S T p u (subst (HoldsAlways S T) same all.0 u least'.suits) least'.violated)
+first_is_one S T (x ∷ before) (y ∷ before') later later' o p w u e all all' least least' =
+    let tail : before ++ o ∷ later ≡ before' ++ p ∷ later' = cc in
+    first_is_one S T before before' later later' o p w u tail all.1 all'.1 least least'
+
+-- of two lists of one length the same, or one before the other
+compared : (xs ys : List ℕ) → length xs ≡ length ys → (xs ≡ ys) ⊎ ComesBefore xs ys ⊎ ComesBefore ys xs
+compared [] [] long = inl refl
+compared [] (y ∷ ys) long = absurd (omega arith)
+compared (x ∷ xs) [] long = absurd (omega arith)
+compared (x ∷ xs) (y ∷ ys) long = heads (cases_lt x y) (cases_lt y x) (compared xs ys (omega arith))
+  where
+    heads : ((x < y) ⊎ (y ≤ x)) → ((y < x) ⊎ (x ≤ y)) → ((xs ≡ ys) ⊎ ComesBefore xs ys ⊎ ComesBefore ys xs) → (x ∷ xs ≡ y ∷ ys) ⊎ ComesBefore (x ∷ xs) (y ∷ ys) ⊎ ComesBefore (y ∷ ys) (x ∷ xs)
+    heads (inl less) other tail = inr (inl (inl less))
+    heads (inr more) (inl less) tail = inr (inr (inl less))
+    heads (inr more) (inr most) tail =
+        let same : x ≡ y = omega arith in
+        elim tail [
+          | inl tails ↦ inl (ap₂ (λ (n : ℕ) (ns : List ℕ). n ∷ ns) same tails)
+          | inr (inl before) ↦ inr (inl (inr (same, before)))
+          | inr (inr behind) ↦ inr (inr (inr (sym same, behind)))
+        ]
+
+parts_long : (S : SourceTree) (T : TableTree) (w : Valuation) → length (values_of w.input (free_inputs S T) ++ values_of w.state (root_registers S.modules)) ≡ length (free_inputs S T ++ root_registers S.modules)
+parts_long S T w =
+    length-append (values_of w.input (free_inputs S T)) (values_of w.state (root_registers S.modules))
+    ∙ ap₂ (λ m n. m + n) (length_map (λ (name : List ℕ). w.input (name ∷ [])) (free_inputs S T)) (length_map (λ (name : List ℕ). w.state (name ∷ [])) (root_registers S.modules))
+    ∙ sym (length-append (free_inputs S T) (root_registers S.modules))
+
+values_long : (S : SourceTree) (T : TableTree) (o : Obligation) (w u : Valuation) → length (free_values S T o w) ≡ length (free_values S T o u)
+values_long S T cover w u = refl
+values_long S T (reset goal) w u = parts_long S T w ∙ sym (parts_long S T u)
+values_long S T (ends c phase goal) w u = parts_long S T w ∙ sym (parts_long S T u)
+
+-- the values at which it is violated first are one list
+least_is_one : (S : SourceTree) (T : TableTree) (o : Obligation) (w u : Valuation) → IsLeastViolation S T o w → IsLeastViolation S T o u → free_values S T o w ≡ free_values S T o u
+least_is_one S T o w u least least' = elim (compared (free_values S T o w) (free_values S T o u) (values_long S T o w u)) [
+  | inl same ↦ same
+  | inr (inl before) ↦ absurd (not_both S T o w (least'.least w least.suits before) least.violated)
+  | inr (inr behind) ↦ absurd (not_both S T o u (least.least u least'.suits behind) least'.violated)
+]
+
+module _ (reading : OneReadingLaw) (tree : OneTreeLaw) (table : OneTableLaw) (s t : List ℕ) where
+  same_pair : (S R : SourceTree) (T U : TableTree) → Accepts s S → Accepts s R → AcceptsTable S t T → AcceptsTable R t U → (S ≡ R) × (T ≡ U)
+  same_pair S R T U one two three four = (one_source reading tree s S R one two, one_table reading table t T U three.spelled four.spelled)
+
+  two_yes : (m n k l : ℕ) → IsYes s t m k → IsYes s t n l → accepted m k ≡ accepted n l
+  two_yes m n k l one two =
+      let same = same_pair one.S two.S one.T two.T one.design two.design one.fitting two.fitting in
+      ap₂ accepted (one.obliged_is ∙ ap (λ (T : TableTree). length (obligations T)) same.1 ∙ sym two.obliged_is) (one.inside_is ∙ ap (λ (T : TableTree). length T.classes) same.1 ∙ sym two.inside_is)
+
+  yes_and_no : (m k : ℕ) (name : List ℕ) (lines : List Line) → IsYes s t m k → IsNo s t name lines → ⊥
+  yes_and_no m k name lines one two =
+      let same = same_pair two.S one.S two.T one.T two.design one.design two.fitting one.fitting in
+      let all : AllByRecursion (HoldsAlways two.S two.T) (obligations two.T) =
+      subst (λ (S : SourceTree). AllByRecursion (HoldsAlways S two.T) (obligations two.T)) (sym same.0)
+      (subst (λ (T : TableTree). AllByRecursion (HoldsAlways one.S T) (obligations T)) (sym same.1) one.all.each) in
+      let split = subst (AllByRecursion (HoldsAlways two.S two.T)) two.listed all in
+      not_both two.S two.T two.first two.valuation (holds_in two.S two.T two.before two.later two.first split two.valuation two.least.suits) two.least.violated
+
+  two_no : (m n : List ℕ) (k l : List Line) → IsNo s t m k → IsNo s t n l → failed m k ≡ failed n l
+  two_no m n k l one two = go one.S one.T refl refl
+    where
+      -- the second over the first's design and table
+      go : (S : SourceTree) (T : TableTree) → one.S ≡ S → one.T ≡ T → failed m k ≡ failed n l
+      go S T eS eT =
+          let same = same_pair two.S one.S two.T one.T two.design one.design two.fitting one.fitting in
+          let listed : obligations one.T ≡ two.before ++ two.first ∷ two.later = ap obligations (sym same.1) ∙ two.listed in
+          let earlier = subst (λ (R : SourceTree). AllByRecursion (HoldsAlways R one.T) two.before) same.0 (subst (λ (U : TableTree). AllByRecursion (HoldsAlways two.S U) two.before) same.1 two.earlier) in
+          let least = subst (λ (R : SourceTree). IsLeastViolation R one.T two.first two.valuation) same.0 (subst (λ (U : TableTree). IsLeastViolation two.S U two.first two.valuation) same.1 two.least) in
+          let lines : l ≡ lines_of (free_names one.S one.T two.first) (free_values one.S one.T two.first two.valuation) =
+          two.lines_are ∙ ap₂ (λ (R : SourceTree) (U : TableTree). lines_of (free_names R U two.first) (free_values R U two.first two.valuation)) same.0 same.1 in
+          let first : one.first ≡ two.first = first_is_one one.S one.T one.before two.before one.later two.later one.first two.first one.valuation two.valuation (sym one.listed ∙ listed) one.earlier earlier one.least least in
+          let least' = subst (λ (o : Obligation). IsLeastViolation one.S one.T o two.valuation) (sym first) least in
+          let values = least_is_one one.S one.T one.first one.valuation two.valuation one.least least' in
+          ap₂ failed (one.name_is ∙ ap obligation_name first ∙ sym two.name_is)
+          (one.lines_are ∙ ap (λ (ns : List ℕ). lines_of (free_names one.S one.T one.first) ns) values
+          ∙ ap (λ (o : Obligation). lines_of (free_names one.S one.T o) (free_values one.S one.T o two.valuation)) first ∙ sym lines)
+
+  refused_none : {S : SourceTree} {T : TableTree} → IsTableRefused s t → Accepts s S → AcceptsTable S t T → ⊥
+  refused_none {S = S} {T = T} refused design fitting =
+      refused.none T (subst (λ (R : SourceTree). AcceptsTable R t T) (one_source reading tree s S refused.S design refused.design) fitting)
+
+  pub one_answer_is : (a b : Outcome) → IsDecided s t a → IsDecided s t b → a ≢ no_memory → b ≢ no_memory → a ≡ b
+  one_answer_is (accepted m k) (accepted n l) one two p q = two_yes m n k l one two
+  one_answer_is (accepted m k) (failed n l) one two p q = absurd (yes_and_no m k n l one two)
+  one_answer_is (accepted m k) source_not_built one two p q = absurd (two one.S one.design)
+  one_answer_is (accepted m k) table_not_built one two p q = absurd (refused_none two one.design one.fitting)
+  one_answer_is (accepted m k) wrong_words one two p q = absurd two
+  one_answer_is (accepted m k) (unread word) one two p q = absurd two
+  one_answer_is (accepted m k) (too_long word) one two p q = absurd two
+  one_answer_is (failed m k) (accepted n l) one two p q = absurd (yes_and_no n l m k two one)
+  one_answer_is (failed m k) (failed n l) one two p q = two_no m n k l one two
+  one_answer_is (failed m k) source_not_built one two p q = absurd (two one.S one.design)
+  one_answer_is (failed m k) table_not_built one two p q = absurd (refused_none two one.design one.fitting)
+  one_answer_is (failed m k) wrong_words one two p q = absurd two
+  one_answer_is (failed m k) (unread word) one two p q = absurd two
+  one_answer_is (failed m k) (too_long word) one two p q = absurd two
+  one_answer_is source_not_built (accepted n l) one two p q = absurd (one two.S two.design)
+  one_answer_is source_not_built (failed n l) one two p q = absurd (one two.S two.design)
+  one_answer_is source_not_built source_not_built one two p q = refl
+  one_answer_is source_not_built table_not_built one two p q = absurd (one two.S two.design)
+  one_answer_is source_not_built wrong_words one two p q = absurd two
+  one_answer_is source_not_built (unread word) one two p q = absurd two
+  one_answer_is source_not_built (too_long word) one two p q = absurd two
+  one_answer_is table_not_built (accepted n l) one two p q = absurd (refused_none one two.design two.fitting)
+  one_answer_is table_not_built (failed n l) one two p q = absurd (refused_none one two.design two.fitting)
+  one_answer_is table_not_built source_not_built one two p q = absurd (two one.S one.design)
+  one_answer_is table_not_built table_not_built one two p q = refl
+  one_answer_is table_not_built wrong_words one two p q = absurd two
+  one_answer_is table_not_built (unread word) one two p q = absurd two
+  one_answer_is table_not_built (too_long word) one two p q = absurd two
+  one_answer_is no_memory b one two p q = absurd (p refl)
+  one_answer_is wrong_words b one two p q = absurd one
+  one_answer_is (unread word) b one two p q = absurd one
+  one_answer_is (too_long word) b one two p q = absurd one
+  one_answer_is (accepted m k) no_memory one two p q = absurd (q refl)
+  one_answer_is (failed m k) no_memory one two p q = absurd (q refl)
+  one_answer_is source_not_built no_memory one two p q = absurd (q refl)
+  one_answer_is table_not_built no_memory one two p q = absurd (q refl)
