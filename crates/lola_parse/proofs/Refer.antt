@@ -73,6 +73,16 @@ reference_path {all = all} {rest = rest} {r = r} {at = at} (source {word = text}
       is ∙ ap (λ at. record { source = true; path = path; at = at }) f.at_is,
     )
 
+pub count_none : {l : Language} {all rest : List Item} {c : Count} (n : Next) → IsNextOf all n → ((value : ℕ) (width : Option ℕ) → n.symbol ≡ s.Number value width → ⊥) →
+    (n.symbol ≡ s.Name → ⊥) → Counted l all c rest → ⊥
+count_none {all = all} n next counts name (fixed value at stood is) = counts value None (sym (next_is all n next stood).symbol_is)
+count_none {all = all} n next counts name (constant text at design read is) = name (sym (next_is all n next (name_stands read)).symbol_is)
+
+pub reference_none : {l : Language} {all rest : List Item} {r : Ref} (n : Next) → IsNextOf all n → (n.symbol ≡ s.Name → ⊥) → (n.symbol ≡ s.At → ⊥) →
+    Reference l all r rest → ⊥
+reference_none {all = all} n next name mark (plain text at read is) = name (sym (next_is all n next (name_stands read)).symbol_is)
+reference_none {all = all} n next name mark (source path at first behind table stood word more is) = mark (sym (next_is all n next stood).symbol_is)
+
 pub alone_closes : {l : Language} {rest : List Item} {floor : ℕ} → Closes 7 floor rest → PathCloses l rest
 alone_closes closes = λ table first passes. no_close passes.1 (omega arith) closes
 

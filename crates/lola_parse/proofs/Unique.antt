@@ -18,8 +18,8 @@ use Rattle.lola_parse.specs.Design.{Outermost}
 use Rattle.lola_parse.specs.Behind.{NameRead, PartRead, Referred, SliceBegins, IndexBehind, ShiftBehind}
 use Rattle.lola_parse.specs.MayEnd.{tightness, Closes, PathCloses, Sole}
 use Rattle.lola_parse.specs.Read.{front, Stops, Anywhere}
-use Rattle.lola_parse.proofs.Follow.{head, tail, one_front, front_is, name_stands, closes_at, closes_more, stops_closes}
-use Rattle.lola_parse.proofs.Whole.{After, arrow_closes, expression_alone, expression_chosen, choice_made, sign_closes, rel_alone, rel_made, terms_close, sum_more, terms_none, terms_more, factors_close, term_more, factors_none, factors_more, times_close, times_once, part_times, part_value, parts_close, parts_none, parts_part, concat_first, brace_closes, nested_closes, index_closes, shift_close, shift_made, passes_on, pair_is}
+use Rattle.lola_parse.proofs.Follow.{head, tail, one_front, name_stands, closes_at, closes_more, stops_closes}
+use Rattle.lola_parse.proofs.Whole.{After, arrow_closes, expression_alone, expression_chosen, choice_made, sign_closes, rel_alone, rel_made, terms_close, sum_more, terms_none, terms_more, factors_close, term_more, factors_none, factors_more, times_close, times_once, times_count, part_times, part_value, parts_close, parts_none, parts_part, concat_first, brace_closes, nested_closes, index_closes, shift_close, shift_made, passes_on, pair_is}
 use Rattle.lola_parse.proofs.Refer.{two_symbols, alone_closes, bit_closes, bracket_closes, referred_alone, referred_bit, referred_bracket, slice_only, index_only, index_not, slice_low, slice_close, FactorBy, factor_by}
 
 -- a list doesn't go on before a symbol that is looser
@@ -77,18 +77,12 @@ pub counted_one : {l : Language} {all behind : List Item} {c : Count} → Counte
 counted_one (fixed value at stands is) = λ c rest other k. same_number value at stands is other
 counted_one (constant name at design read is) = λ c rest other k. same_name name at read is other
 
-times_more : {l : Language} {at sign_at : ℕ} {all first behind rest : List Item} {c d : Count} → Stands s.Times sign_at all first → Counted l first c behind →
-    Times l at all d rest → Closes 2 0 rest → (c ≡ d) × (behind ≡ rest)
-times_more stands read (once is none) closes = not_at (subst (Closes 2 0) none closes) (omega arith) (front_is stands)
-times_more {l = l} {rest = rest} {d = d} stands read (repeated after stood again) closes =
-    counted_one read d rest (subst (λ all. Counted l all d rest) (one_front stood stands).rest_is again) tt
-
 times_one : {l : Language} {at : ℕ} {all behind : List Item} {c : Count} → Times l at all c behind → Closes 2 0 behind → Sole (Times l at all) (Closes 2 0) c behind
 times_one (once is none) closes =
     λ c rest other k.
     let same = times_once other (λ e. not_at (subst (Closes 2 0) none closes) (omega arith) e) in
     (is ∙ same.0, none ∙ same.1)
-times_one (repeated behind stands read) closes = λ c rest other k. times_more stands read other k
+times_one (repeated behind stands read) closes = λ c rest other k. counted_one read c rest (times_count other k stands) tt
 
 -- "." word
 word_one : {word text : List ℕ} {all behind rest : List Item} → Words word all behind → Words text all rest → (word ≡ text) × (behind ≡ rest)

@@ -13,7 +13,7 @@ use Rattle.lola_parse.specs.declared.symbol.Language.{Language}
 use Rattle.lola_parse.specs.declared.cursor.Next.{Next}
 use Rattle.lola_parse.specs.Symbols.{Item}
 use Rattle.lola_parse.specs.Parts.{part_tree, parts_tree}
-use Rattle.lola_parse.specs.Grammar.{Stands, Passes, Times, once, repeated, Expression, one_rel, chosen, Rel, one_sum, related, Sum, sum, Terms, no_term, one_term, Term, term, Factors, no_factor, one_factor, Factor, OnePart, part, MoreParts, no_more, one_more, with_part, relation_of, adding_of, place_of}
+use Rattle.lola_parse.specs.Grammar.{Counted, Stands, Passes, Times, once, repeated, Expression, one_rel, chosen, Rel, one_sum, related, Sum, sum, Terms, no_term, one_term, Term, term, Factors, no_factor, one_factor, Factor, OnePart, part, MoreParts, no_more, one_more, with_part, relation_of, adding_of, place_of}
 use Rattle.lola_parse.specs.Behind.{ChoiceBehind, NestedBehind, ShiftBehind, ConcatBehind, IndexBehind, PartRead}
 use Rattle.std.specs.Result.{IsErrAnd}
 use Rattle.lola_parse.specs.declared.fault.Fault.{Fault}
@@ -363,6 +363,12 @@ shift_made {o = o} {v = v} {w = w} {at = at} h within after sole comma last is =
     let one = (sole _ _ (shift_open h after) (shift_first h within)).0 in
     let two = (last _ _ (shift_by h within after sole comma) (shift_second h within)).0 in
     is ∙ (ap (λ w. binary o v w at) two ∙ (ap (λ v. binary o v h.by at) one ∙ sym h.tree_is))
+
+pub times_count : {l : Language} {place at floor : ℕ} {all first rest : List Item} {times : Count} → Times l place all times rest → Closes 2 floor rest →
+    Stands s.Times at all first → Counted l first times rest
+times_count {floor = floor} (once is none) closes stands = no_close stands (omega arith) (subst (Closes 2 floor) none closes)
+times_count {l = l} {rest = rest} {times = times} (repeated behind stood read) closes stands =
+    subst (λ all. Counted l all times rest) (one_front stood stands).rest_is read
 
 pub times_once : {l : Language} {place : ℕ} {all rest : List Item} {times : Count} → Times l place all times rest → (front all ≡ s.Times → ⊥) →
     (count.Fixed 1 place ≡ times) × (all ≡ rest)

@@ -98,3 +98,7 @@ pub digit_next : (all : List Item) (n : Next) (value : ℕ) (width : Option ℕ)
 digit_next [] n value width one next e is = absurd (let p : s.Nothing ≡ s.Number value width = sym next.0 ∙ e in cc)
 digit_next (item ∷ more) n value width one next e is =
     record { value = value; width = width; at = n.at; number_read = record { is_word = n.is_word; spelled = n.spelled.now; splits = cc }; value_is = is }
+
+pub word_next : (all : List Item) (n : Next) → IsNextOf all n → n.is_word ≡ true → Words n.spelled.now all n.rest
+word_next [] n next e = absurd (let p : false ≡ true = sym next.1 ∙ e in cc)
+word_next (item ∷ more) n next e = record { symbol = n.symbol; at = n.at; no_number = next.2 e; splits = cc }

@@ -3,7 +3,7 @@ ghost use Rattle.tab_read.specs.declared.fault.TableFault.TheVariants.{Memory};
 ghost use Rattle.tab_read.specs.Fault.{fault_of};
 
 use lola_parse::Fault;
-use std::alloc::{AllocError, AllocFailed};
+use std::alloc::AllocFailed;
 
 /// Why tokens give no table: they spell none in the forms that are built, or memory is wanting.
 #[derive(Clone, Copy, Debug, PartialEq, Eq)]
@@ -20,14 +20,6 @@ impl From<Fault> for TableFault {
             Fault::Memory => TableFault::Memory,
             _ => TableFault::NotBuilt,
         }
-    }
-}
-
-impl From<AllocError> for TableFault {
-    ghost from_gives = { λ _ fault. fault ≡ Memory };
-
-    fn from(_error: AllocError) -> TableFault {
-        TableFault::Memory
     }
 }
 

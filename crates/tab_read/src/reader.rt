@@ -17,9 +17,9 @@ use lola_tree::Expr;
 use std::alloc::Global;
 use tab_tree::{Active, Class, SetRow, StateRow, Table};
 
-/// The table that a text's tokens spell, which are those that `scan` gave for it. NotBuilt comes
-/// exactly where they spell no table in the forms that are built; Memory is want of memory. Time and
-/// memory are linear in the tokens.
+/// The table that all tokens of a text spell by the grammar of tables; they are those that `scan`
+/// gave for it. NotBuilt comes exactly where they spell no table in the forms that are built; Memory
+/// is want of memory. Time and memory are linear in the text.
 pub fn read_table(alloc: Global, text: &[u8], tokens: &[Token]) -> Result<Table, TableFault>
     requires { AreIn text.now tokens.now }
     ensures ok { IfOk result (λ table. SpellsTable (items_of Language.Table text.now tokens.now) (table_tree table)) }

@@ -4,6 +4,7 @@ use Rattle.lola_parse.specs.Design.{constant}
 use Rattle.lola_parse.proofs.Whole.{handed_on}
 use Rattle.lola_parse.proofs.Steps.{passed, was_read, refuses, by_read}
 use Rattle.lola_parse.proofs.Modules.{constant_step, number_semicolon, number_none}
+use Rattle.lola_parse.proofs.Modules.{number_made}
 use Rattle.lola_parse.proofs.module.constant.Goals as goal
 
 pub returns-in_ok-behind-in-Number-clause-ok : goal.returns-in_ok-behind-in-Number-clause-ok
@@ -22,3 +23,6 @@ returns-in_err-behind-in-Number-clause-whole c = λ k rest d ends. let w = was_r
 
 pub returns-in_default-clause-whole : goal.returns-in_default-clause-whole
 returns-in_default-clause-whole c = λ k rest d ends. let w = was_read _ (constant_step d) c.in_ok-named.ensures.whole in let x = passed _ w c.in_ok-behind.ensures.whole in absurd (number_none c.next-number.result x c.next-number.ensures c.in_default.not-Number)
+
+pub returns-in_ok-behind-in-Number-clause-whole : goal.returns-in_ok-behind-in-Number-clause-whole
+returns-in_ok-behind-in-Number-clause-whole c = λ k rest d ends. let w = was_read _ (constant_step d) c.in_ok-named.ensures.whole in let x = passed _ w c.in_ok-behind.ensures.whole in (number_made c.next-number.result x c.next-number.ensures c.in-Number.is, c.in_ok-behind-in-Number.ensures.whole rest (number_semicolon c.next-number.result x c.next-number.ensures))

@@ -2,6 +2,7 @@ use Rattle.std.proofs.Common.{refl, ap, ◌∙◌}
 use Rattle.lola_parse.specs.declared.symbol.Symbol.TheVariants as s
 use Rattle.lola_parse.specs.Grammar.{fixed}
 use Rattle.lola_parse.proofs.Fronts.{stands, names, counted_name}
+use Rattle.lola_parse.proofs.Refer.{count_none}
 use Rattle.lola_parse.proofs.reference.count.Goals as goal
 
 pub returns-in-None-clause-ok : goal.returns-in-None-clause-ok
@@ -13,3 +14,6 @@ pub returns-in_ok-name-in-Design-clause-ok : goal.returns-in_ok-name-in-Design-c
 returns-in_ok-name-in-Design-clause-ok c =
     let front = c.next-next.result in
     counted_name _ _ _ _ _ _ c.in-Design.is c.in_ok-name-in-Design.ensures (names c.args.here front c.next-next.ensures c.in-Name.is)
+
+pub returns-in_default-clause-whole : goal.returns-in_default-clause-whole
+returns-in_default-clause-whole c = λ k rest read ends. absurd (count_none c.next-next.result c.next-next.ensures c.in_default.not-Number c.in_default.not-Name read)

@@ -5,6 +5,7 @@ use Rattle.lola_parse.specs.MayEnd.{PathCloses}
 use Rattle.lola_parse.proofs.Fronts.{stands, names}
 use Rattle.lola_parse.proofs.Whole.{handed_on}
 use Rattle.lola_parse.proofs.Refer.{reference_path}
+use Rattle.lola_parse.proofs.Refer.{reference_none}
 use Rattle.lola_parse.proofs.reference.reference.Goals as goal
 
 pub returns-in_ok-path-in-Name-clause-ok : goal.returns-in_ok-path-in-Name-clause-ok
@@ -31,3 +32,6 @@ returns-in_ok-path-in-Table-clause-whole c =
     let w = reference_path read (stands c.args.here c.next-next.result s.At c.next-next.ensures c.in-At.is refl) in
     let same = c.in_ok-path-in-Table.ensures.whole w.0 rest w.1 (subst (λ l. PathCloses l rest) c.in-Table.is closes) in
     (ap (λ p. record { source = true; path = p; at = c.next-next.result.at }) (c.of-in-Table.ensures ∙ same.0) ∙ sym w.2, same.1)
+
+pub returns-in_default-clause-whole : goal.returns-in_default-clause-whole
+returns-in_default-clause-whole c = λ r rest read ends. absurd (reference_none c.next-next.result c.next-next.ensures c.in_default.not-Name c.in_default.not-At read)
