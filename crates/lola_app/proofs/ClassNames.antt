@@ -14,12 +14,12 @@ use Rattle.lola_app.specs.declared.states.Shown.{Shown}
 use Rattle.lola_app.specs.Claiming.{AreEach, AreLeaves}
 use Rattle.lola_app.specs.Classes.{IsTaken}
 use Rattle.lola_app.specs.Headline.{shown, answer_of, role_value}
-use Rattle.lola_app.specs.Naming.{IsAt, IsScope}
+use Rattle.lola_app.specs.Naming.{IsAt}
 use Rattle.lola_app.specs.Scoping.{HasClassNames, Entered, loaded_entry, state_entries}
 use Rattle.lola_app.specs.Shown.{IsShown, IsLoadedAt}
 use Rattle.lola_app.specs.Small.{Interface, IsInClass, IsClassName, state_names, is_taken}
 use Rattle.lola_app.specs.Starts.{leaf_under}
-use Rattle.lola_app.proofs.ScopeMeans.{no_path, bare_reading, source_reading, input_value, entered_under, names_shown, first_entry, find_entered, first_state, leaf_reading}
+use Rattle.lola_app.proofs.ScopeMeans.{IsScope, no_path, bare_reading, source_reading, input_value, entered_under, names_shown, first_entry, find_entered, first_state, leaf_reading}
 use Rattle.lola_app.proofs.Orders.{either}
 use Rattle.lola_app.proofs.Places.{not_none}
 

@@ -70,13 +70,8 @@ module _ (source table : List ℕ) (design : Design) (claim : Claim) (made : IsD
       let all = all_hold made.S told.T claim does told.claims one pass.list pass.is_listed pass.all in
       let both = headline made.S told.T elaborated.small fits all in
       record {
-        S = made.S;
-        T = told.T;
-        design = made.accepts;
-        fitting = fitting;
+        headline = record { S = made.S; T = told.T; design = made.accepts; fitting = fitting; cycles = one; resets = both.0; commutes = both.1 };
         all = all;
-        resets = both.0;
-        commutes = both.1;
         obliged_is = pass.obliged_is ∙ sym (each_long (λ o entry. IsEntry made.S told.T claim o (named_of entry)) (obligations told.T) pass.list (each_entry made.S told.T claim does told.claims one pass.list pass.is_listed));
         inside_is = pass.inside_is ∙ sym (ap length told.claims.small.one_class);
       }

@@ -21,13 +21,13 @@ use Rattle.lola_app.specs.Claiming.{face_of, AreEach, MeansBit, IsClaimedState, 
 use Rattle.lola_app.specs.Classes.{IsPlainPhase, IsTaken}
 use Rattle.lola_app.specs.Fitting.{IsSetState}
 use Rattle.lola_app.specs.Headline.{shown, answer_of}
-use Rattle.lola_app.specs.Naming.{IsAt, IsScope}
+use Rattle.lola_app.specs.Naming.{IsAt}
 use Rattle.lola_app.specs.Scoping.{HasRegisters, HasClassNames}
 use Rattle.lola_app.specs.Shown.{IsShown, IsLoadedAt, AreRoles}
 use Rattle.lola_app.specs.Small.{Interface, IsSourceRegister, IsNoName, IsInClass, state_names, IsSmallRow, AreSmallRows, IsSmallClass, AreSmallStates, IsSmallTable}
 use Rattle.lola_app.specs.Starts.{leaf_under, IsStartRow}
 use Rattle.lola_app.proofs.ClassNames.{class_is_scope}
-use Rattle.lola_app.proofs.ScopeMeans.{small_map, registers_scope, shown_value, entered_under, names_shown}
+use Rattle.lola_app.proofs.ScopeMeans.{IsScope, small_map, registers_scope, shown_value, entered_under, names_shown}
 use Rattle.lola_app.proofs.Orders.{either}
 
 -- an expression that was read in a scope means the same over the leaves

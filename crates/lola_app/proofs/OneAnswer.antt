@@ -9,6 +9,7 @@ use Rattle.lola_parse.specs.declared.symbol.Language.TheVariants.{Design, Table}
 use Rattle.lola_parse.specs.Symbols.{Item, items_of}
 use Rattle.lola_parse.specs.Design.{SpellsSource}
 use Rattle.tab_tree.specs.Table.{TableTree}
+use Rattle.tab_tree.specs.Step.{inside_classes}
 use Rattle.tab_read.specs.Grammar.{SpellsTable}
 use Rattle.lola_app.specs.Accepts.{Accepts, IsSpelled, AcceptsTable}
 use Rattle.lola_app.specs.Obligations.{Obligation, cover, reset, ends, obligations, obligation_name, Valuation, HoldsAt, IsViolatedAt, HoldsAlways, free_inputs, free_names, free_values, ComesBefore, IsLeastViolation}
@@ -101,15 +102,15 @@ module _ (reading : OneReadingLaw) (tree : OneTreeLaw) (table : OneTableLaw) (s 
 
   two_yes : (m n k l : ℕ) → IsYes s t m k → IsYes s t n l → accepted m k ≡ accepted n l
   two_yes m n k l one two =
-      let same = same_pair one.S two.S one.T two.T one.design two.design one.fitting two.fitting in
-      ap₂ accepted (one.obliged_is ∙ ap (λ (T : TableTree). length (obligations T)) same.1 ∙ sym two.obliged_is) (one.inside_is ∙ ap (λ (T : TableTree). length T.classes) same.1 ∙ sym two.inside_is)
+      let same = same_pair one.headline.S two.headline.S one.headline.T two.headline.T one.headline.design two.headline.design one.headline.fitting two.headline.fitting in
+      ap₂ accepted (one.obliged_is ∙ ap (λ (T : TableTree). length (obligations T)) same.1 ∙ sym two.obliged_is) (one.inside_is ∙ ap (λ (T : TableTree). length (inside_classes T)) same.1 ∙ sym two.inside_is)
 
   yes_and_no : (m k : ℕ) (name : List ℕ) (lines : List Line) → IsYes s t m k → IsNo s t name lines → ⊥
   yes_and_no m k name lines one two =
-      let same = same_pair two.S one.S two.T one.T two.design one.design two.fitting one.fitting in
+      let same = same_pair two.S one.headline.S two.T one.headline.T two.design one.headline.design two.fitting one.headline.fitting in
       let all : AllByRecursion (HoldsAlways two.S two.T) (obligations two.T) =
       subst (λ (S : SourceTree). AllByRecursion (HoldsAlways S two.T) (obligations two.T)) (sym same.0)
-      (subst (λ (T : TableTree). AllByRecursion (HoldsAlways one.S T) (obligations T)) (sym same.1) one.all.each) in
+      (subst (λ (T : TableTree). AllByRecursion (HoldsAlways one.headline.S T) (obligations T)) (sym same.1) one.all.each) in
       let split = subst (AllByRecursion (HoldsAlways two.S two.T)) two.listed all in
       not_both two.S two.T two.first two.valuation (holds_in two.S two.T two.before two.later two.first split two.valuation two.least.suits) two.least.violated
 
@@ -139,8 +140,8 @@ module _ (reading : OneReadingLaw) (tree : OneTreeLaw) (table : OneTableLaw) (s 
   pub one_answer_is : (a b : Outcome) → IsDecided s t a → IsDecided s t b → a ≢ no_memory → b ≢ no_memory → a ≡ b
   one_answer_is (accepted m k) (accepted n l) one two p q = two_yes m n k l one two
   one_answer_is (accepted m k) (failed n l) one two p q = absurd (yes_and_no m k n l one two)
-  one_answer_is (accepted m k) source_not_built one two p q = absurd (two one.S one.design)
-  one_answer_is (accepted m k) table_not_built one two p q = absurd (refused_none two one.design one.fitting)
+  one_answer_is (accepted m k) source_not_built one two p q = absurd (two one.headline.S one.headline.design)
+  one_answer_is (accepted m k) table_not_built one two p q = absurd (refused_none two one.headline.design one.headline.fitting)
   one_answer_is (accepted m k) wrong_words one two p q = absurd two
   one_answer_is (accepted m k) (unread word) one two p q = absurd two
   one_answer_is (accepted m k) (too_long word) one two p q = absurd two
@@ -151,14 +152,14 @@ module _ (reading : OneReadingLaw) (tree : OneTreeLaw) (table : OneTableLaw) (s 
   one_answer_is (failed m k) wrong_words one two p q = absurd two
   one_answer_is (failed m k) (unread word) one two p q = absurd two
   one_answer_is (failed m k) (too_long word) one two p q = absurd two
-  one_answer_is source_not_built (accepted n l) one two p q = absurd (one two.S two.design)
+  one_answer_is source_not_built (accepted n l) one two p q = absurd (one two.headline.S two.headline.design)
   one_answer_is source_not_built (failed n l) one two p q = absurd (one two.S two.design)
   one_answer_is source_not_built source_not_built one two p q = refl
   one_answer_is source_not_built table_not_built one two p q = absurd (one two.S two.design)
   one_answer_is source_not_built wrong_words one two p q = absurd two
   one_answer_is source_not_built (unread word) one two p q = absurd two
   one_answer_is source_not_built (too_long word) one two p q = absurd two
-  one_answer_is table_not_built (accepted n l) one two p q = absurd (refused_none one two.design two.fitting)
+  one_answer_is table_not_built (accepted n l) one two p q = absurd (refused_none one two.headline.design two.headline.fitting)
   one_answer_is table_not_built (failed n l) one two p q = absurd (refused_none one two.design two.fitting)
   one_answer_is table_not_built source_not_built one two p q = absurd (two one.S one.design)
   one_answer_is table_not_built table_not_built one two p q = refl

@@ -20,7 +20,7 @@ use Rattle.tab_tree.specs.Table.{StateTree}
 use Rattle.tab_tree.specs.Step.{source_names, state_value}
 use Rattle.lola_app.specs.declared.states.Shown.{Shown}
 use Rattle.lola_app.specs.Claiming.{AreEach, AreLeaves}
-use Rattle.lola_app.specs.Naming.{IsAt, IsScope}
+use Rattle.lola_app.specs.Naming.{IsAt}
 use Rattle.lola_app.specs.Scoping.{HasRegisters, Entered, state_entries}
 use Rattle.lola_app.specs.Shown.{IsSourceName, IsShown}
 use Rattle.lola_app.specs.Starts.{leaf_under}
@@ -162,6 +162,12 @@ leaf_there (e ∷ entries) n (x ∷ names) name are among = elim (either (bytes_
     later : bytes_eq (string_bytes e.name) name ≡ false → string_bytes e.name ≡ x → IsIn name (x ∷ names) → IsIn name names
     later off there (inl same) = let f : true ≡ false = sym (same_name (string_bytes e.name) name (there ∙ sym same)) ∙ off in absurd cc
     later off there (inr more) = more
+
+-- a scope has the names that may stand somewhere, each with the value that it has there
+pub record IsScope (face : Interface) (Names : Ref → Type 0) (names : Values → Values → Ref → ℕ) (scope : Scope) : Type 0 where
+  pub reads : (s inp : Values) (leaves : List Bool) → AreLeaves face s inp leaves → Reads scope (names s inp) leaves
+  pub has : (r : Ref) → Names r → HasReading scope r
+  pub only : (r : Ref) → HasReading scope r → Names r
 
 -- the scope of the registers
 pub registers_scope : (face : Interface) (scope : Scope) → HasRegisters (length face.inputs) face.registers scope → IsScope face (IsSourceRegister face.registers) (λ s inp. source_names s) scope

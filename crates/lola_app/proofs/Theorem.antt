@@ -94,15 +94,17 @@ weaker P Q f (x ∷ xs) all = (f x all.0, weaker P Q f xs all.1)
 
 resets : (S : SourceTree) (T : TableTree) → AllHold S T → Resets S T
 resets S T all = record {
-  shows = λ s inp v s' is given active unstalled' cycle next. record {
-    invariant = all.each.1.0 (at s inp) (is, given, active) v s' cycle next;
-    boundary = all.each.1.1.0 (at s inp) (is, given, active) v s' cycle next;
-    states = refl;
-    code = refl;
-  };
-  starts = λ s inp v s' is given active unstalled' cycle next.
-      weaker (λ (row : SetTree). HoldsAlways S T (reset (start row))) (λ (row : SetTree). state_value T.states (shown T s') row.name ≡ value row.value no_names)
-      (λ row holds'. holds' (at s inp) (is, given, active) v s' cycle next) T.starts (of_reset S T all);
+  leaves = λ s inp v s' is. (
+    record {
+      invariant = all.each.1.0 (at s inp) (is.state, is.given, is.active) v s' is.cycle is.next;
+      boundary = all.each.1.1.0 (at s inp) (is.state, is.given, is.active) v s' is.cycle is.next;
+      states = refl;
+      code = refl;
+    },
+    weaker (λ (row : SetTree). HoldsAlways S T (reset (start row))) (λ (row : SetTree). state_value T.states (shown T s') row.name ≡ value row.value no_names)
+        (λ row holds'. holds' (at s inp) (is.state, is.given, is.active) v s' is.cycle is.next) T.starts (of_reset S T all),
+  );
+  accesses = λ s inp v s' is access none. absurd none;
 }
 
 -- one instruction: from a boundary to the next

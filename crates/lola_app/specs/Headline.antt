@@ -7,7 +7,7 @@ use Rattle.lola_tree.specs.Tree.{SourceTree}
 use Rattle.lola_tree.specs.Value.{Values, value}
 use Rattle.lola_tree.specs.Cycle.{IsState, IsGiven, Cycle, Next, Run, input_at}
 use Rattle.tab_tree.specs.Table.{active_value, idle_value, StateTree, SetTree, ClassTree, TableTree}
-use Rattle.tab_tree.specs.Step.{Arch, Answer, IsClass, source_names, no_names, state_value, Boundary, Access, idle, Row}
+use Rattle.tab_tree.specs.Step.{Arch, Answer, IsInside, source_names, no_names, state_value, Boundary, Access, idle, IsStartAccess, Row}
 
 -- the states that a state of the design shows
 abbrev pub shown : TableTree → Values → Arch
@@ -59,7 +59,7 @@ answers_of T inputs = map (answer_of T) (filter (is_unstalled T) inputs)
 -- a boundary lasts through the stalled cycles behind it while its word is inside; of an outside word
 -- only its first moment is claimed
 abbrev pub Lasts : TableTree → List Values → ℕ → ℕ → Type 0
-Lasts T inputs word c = ((k : ClassTree) × IsClass T word k) ⊎ (c ≡ 0) ⊎ (is_unstalled T (input_at inputs (c - 1)) ≡ true)
+Lasts T inputs word c = ((k : ClassTree) × IsInside T word k) ⊎ (c ≡ 0) ⊎ (is_unstalled T (input_at inputs (c - 1)) ≡ true)
 
 -- a cycle makes an access; without bus roles none is claimed
 abbrev pub Sees : TableTree → Values → Access → Type 0
@@ -87,9 +87,18 @@ pub record Commutes (S : SourceTree) (T : TableTree) : Type 0 where
 abbrev pub MeetsStart : TableTree → Arch → Type 0
 MeetsStart T A = AllByRecursion (λ (row : SetTree). state_value T.states A row.name ≡ value row.value no_names) T.starts
 
--- a reset cycle leaves a state at a boundary that shows the START values, from any state at all
+-- a reset cycle of a design: from a state, under an input with RESET active and no stall, to the state
+-- behind it
+pub record IsResetCycle (S : SourceTree) (T : TableTree) (s inp v s' : Values) : Type 0 where
+  pub state : IsState S s
+  pub given : IsGiven S inp
+  pub active : IsActive T inp
+  pub unstalled : is_unstalled T inp ≡ true
+  pub cycle : Cycle S s inp v
+  pub next : Next S v s'
+
+-- every reset cycle leaves a state at a boundary that shows the START values, from any state at all, and
+-- makes the access of START
 pub record Resets (S : SourceTree) (T : TableTree) : Type 0 where
-  pub shows : (s inp v s' : Values) → IsState S s → IsGiven S inp → IsActive T inp → is_unstalled T inp ≡ true → Cycle S s inp v → Next S v s' →
-      Shows T s' (shown T s') (answer_of T inp).code
-  pub starts : (s inp v s' : Values) → IsState S s → IsGiven S inp → IsActive T inp → is_unstalled T inp ≡ true → Cycle S s inp v → Next S v s' →
-      MeetsStart T (shown T s')
+  pub leaves : (s inp v s' : Values) → IsResetCycle S T s inp v s' → Shows T s' (shown T s') (answer_of T inp).code × MeetsStart T (shown T s')
+  pub accesses : (s inp v s' : Values) → IsResetCycle S T s inp v s' → (access : Access) → IsStartAccess T access → Sees T v access

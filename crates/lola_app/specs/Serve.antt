@@ -2,7 +2,11 @@
 use Rattle.std.specs.Prelude.{◌≡◌, ◌≢◌, ◌⊎◌, ℕ, ◌<◌, ◌≤◌, nat_eq, List, [], ◌∷◌, ◌++◌, length, codes, Option, Some, IfSome, IsSomeAnd, Result, Ok, Err, string_bytes}
 use Rattle.std.specs.List.{AllByRecursion}
 use Rattle.lola_tree.specs.Tree.{SourceTree}
+use Rattle.lola_tree.specs.Value.{Values}
+use Rattle.lola_tree.specs.Cycle.{IsState, IsGiven}
+use Rattle.lola_elab.specs.Elaborated.{HasOneCycle}
 use Rattle.tab_tree.specs.Table.{TableTree}
+use Rattle.tab_tree.specs.Step.{inside_classes}
 use Rattle.lola_app.specs.Accepts.{Accepts, AcceptsTable}
 use Rattle.lola_app.specs.Headline.{Resets, Commutes}
 use Rattle.lola_app.specs.Obligations.{Obligation, obligations, obligation_name, Valuation, HoldsAlways, AllHold, free_names, free_values, IsLeastViolation}
@@ -47,18 +51,25 @@ pub record AskedFor (words : List (List ℕ)) (told : Option Files) (word : List
   pub decide : Decide words source_name table_name
   pub turn : (word ≡ source_name) ⊎ ((word ≡ table_name) × ((source : List ℕ) × IsText told source_name source))
 
--- all obligations of the table on the design hold, and so both halves of the headline do; the numbers
--- are those of the obligations and of the classes inside the claim
-pub record IsYes (source table : List ℕ) (obliged inside : ℕ) : Type 0 where
+-- the headline of two texts: they spell a design and a table that fits it; each state and input have
+-- exactly one cycle; every reset cycle leaves a state that the table starts from; and every run shows at
+-- each boundary what the table gives
+pub record IsHeadline (source table : List ℕ) : Type 0 where
   pub S : SourceTree
   pub T : TableTree
   pub design : Accepts source S
   pub fitting : AcceptsTable S table T
-  pub all : AllHold S T
+  pub cycles : (s inp : Values) → IsState S s → IsGiven S inp → HasOneCycle S s inp
   pub resets : Resets S T
   pub commutes : Commutes S T
-  pub obliged_is : obliged ≡ length (obligations T)
-  pub inside_is : inside ≡ length T.classes
+
+-- all obligations of the table on the design hold, and so does the headline; the numbers are those of
+-- the obligations and of the classes inside the claim
+pub record IsYes (source table : List ℕ) (obliged inside : ℕ) : Type 0 where
+  pub headline : IsHeadline source table
+  pub all : AllHold headline.S headline.T
+  pub obliged_is : obliged ≡ length (obligations headline.T)
+  pub inside_is : inside ≡ length (inside_classes headline.T)
 
 -- the lines of a valuation: the names that an obligation leaves free, each with its bit
 abbrev pub lines_of : List (List ℕ) → List ℕ → List Line
@@ -83,7 +94,7 @@ pub record IsNo (source table : List ℕ) (name : List ℕ) (lines : List Line) 
   pub name_is : name ≡ obligation_name first
   pub lines_are : lines ≡ lines_of (free_names S T first) (free_values S T first valuation)
 
--- the text of the design is accepted, and that of the table by no table that fits it
+-- the text of the design is accepted, and the other text spells no table that fits it
 pub record IsTableRefused (source table : List ℕ) : Type 0 where
   pub S : SourceTree
   pub design : Accepts source S
@@ -100,24 +111,25 @@ IsDecided source table wrong_words = ⊥
 IsDecided source table (unread word) = ⊥
 IsDecided source table (too_long word) = ⊥
 
--- both texts were asked for, and this is what they lead to
-pub record IsAnswer (words : List (List ℕ)) (told : Option Files) (outcome : Outcome) : Type 0 where
+-- both texts were asked for, no read of either failed, and this is what they lead to
+pub record IsAnswer (words : List (List ℕ)) (told : Option Files) (before now : Counts) (outcome : Outcome) : Type 0 where
   pub source : List ℕ
   pub table : List ℕ
   pub asked : Asked words told source table
+  pub no_fault : Same before now
   pub decided : IsDecided source table outcome
 
 -- when each outcome comes, over the files that the store tells at the call, and its counts of failed
 -- reads before and after it. Want of memory may come at any time
 abbrev pub Due : List (List ℕ) → Option Files → Counts → Counts → Outcome → Type 0
-Due words told before now wrong_words = (source table : List ℕ) → Decide words source table → ⊥
+Due words told before now wrong_words = ((source table : List ℕ) → Decide words source table → ⊥) × Same before now
 Due words told before now (unread word) = AskedFor words told word × RoseAt word before now
-Due words told before now (too_long word) = AskedFor words told word × IsTooLong told word
+Due words told before now (too_long word) = AskedFor words told word × IsTooLong told word × Same before now
 Due words told before now no_memory = Unit {0}
-Due words told before now (accepted obliged inside) = IsAnswer words told (accepted obliged inside)
-Due words told before now (failed name lines) = IsAnswer words told (failed name lines)
-Due words told before now source_not_built = IsAnswer words told source_not_built
-Due words told before now table_not_built = IsAnswer words told table_not_built
+Due words told before now (accepted obliged inside) = IsAnswer words told before now (accepted obliged inside)
+Due words told before now (failed name lines) = IsAnswer words told before now (failed name lines)
+Due words told before now source_not_built = IsAnswer words told before now source_not_built
+Due words told before now table_not_built = IsAnswer words told before now table_not_built
 
 -- an outcome that names a word, or want of memory in its place
 abbrev pub IsWorded : Outcome → Outcome → Type 0
@@ -162,16 +174,6 @@ pub record Served (words : List (List ℕ)) (told : Option Files) (before now : 
   pub due : Due words told before now outcome
   pub ends : Ends outcome sink.old sink.new sink.before sink.now ended
 
--- the headline: the bytes that the store told spell a design and a table that fits it, every reset
--- cycle leaves a state that the table starts from, and every run shows at each boundary what the table
--- gives
-pub record IsHeadline (source table : List ℕ) : Type 0 where
-  pub S : SourceTree
-  pub T : TableTree
-  pub design : Accepts source S
-  pub fitting : AcceptsTable S table T
-  pub resets : Resets S T
-  pub commutes : Commutes S T
-
+-- the headline of the texts that `decide` was asked for, which are those that the store told
 abbrev pub Headline : List (List ℕ) → Option Files → Type 0
 Headline words told = (source : List ℕ) × ((table : List ℕ) × Asked words told source table × IsHeadline source table)

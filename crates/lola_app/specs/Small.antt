@@ -46,7 +46,7 @@ IsOne (slice of high low at) = ⊥
 IsOne (index of place at) = ⊥
 IsOne (concat parts at) = ⊥
 
--- a byte is a decimal digit
+-- a byte is a decimal digit, `0` to `9`
 abbrev pub is_digit : ℕ → Bool
 is_digit b = nat_le 48 b && nat_le b 57
 
@@ -54,7 +54,8 @@ abbrev pub are_digits : List ℕ → Bool
 are_digits [] = true
 are_digits (b ∷ bs) = is_digit b && are_digits bs
 
--- a name that means something in every table: `i`, `k`, and `d` or `t` with digits
+-- a name that means something in every table: `i` or `k`, bytes 105 and 107, and `d` or `t`, bytes 100 and
+-- 116, with digits
 abbrev pub is_taken : List ℕ → Bool
 is_taken [] = false
 is_taken (b ∷ []) = if nat_eq b 105 then true else nat_eq b 107

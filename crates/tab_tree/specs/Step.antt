@@ -19,7 +19,7 @@ pub record Answer : Type 0 where
 abbrev pub bit_at : ℕ → ℕ → ℕ
 bit_at x n = x / 2 ^ n % 2
 
--- one place of a pattern, at a bit: - has both
+-- one place of a pattern, at a bit: `-`, which is byte 45, has both; `0` and `1`, from 48 on, have their own
 abbrev pub fits_place : ℕ → ℕ → Bool
 fits_place c bit = if nat_eq c 45 then true else nat_eq c (48 + bit)
 
@@ -32,6 +32,14 @@ fits (c ∷ cs) word = fits_place c (bit_at word (length cs)) && fits cs word
 pub record IsClass (T : TableTree) (word : ℕ) (c : ClassTree) : Type 0 where
   pub listed : IsIn c T.classes
   pub fit : fits c.pattern word ≡ true
+
+-- a word is inside the claim, in this class of it. So far every class is inside
+abbrev pub IsInside : TableTree → ℕ → ClassTree → Type 0
+IsInside T word c = IsClass T word c
+
+-- the classes that are inside
+abbrev pub inside_classes : TableTree → List ClassTree
+inside_classes T = T.classes
 
 -- the width of the word
 abbrev pub word_width : TableTree → ℕ
@@ -107,7 +115,7 @@ next_word c answers = (answer_at answers (cycles_of c - 1)).code
 -- the word j
 pub data Boundary (T : TableTree) (answers : List Answer) (A : Arch) (i : ℕ) : Arch → ℕ → ℕ → Type 0 where
   first : {B : Arch} {j b : ℕ} → B ≡ A → j ≡ i → b ≡ 0 → Boundary T answers A i B j b
-  after : {B : Arch} {j b : ℕ} (before : Arch) (word at : ℕ) (c : ClassTree) → Boundary T answers A i before word at → IsClass T word c →
+  after : {B : Arch} {j b : ℕ} (before : Arch) (word at : ℕ) (c : ClassTree) → Boundary T answers A i before word at → IsInside T word c →
       at + cycles_of c ≤ length answers → B ≡ next_arch T c before word (drop at answers) → j ≡ next_word c (drop at answers) →
       b ≡ at + cycles_of c → Boundary T answers A i B j b
 
@@ -115,7 +123,11 @@ pub data Boundary (T : TableTree) (answers : List Answer) (A : Arch) (i : ℕ) :
 pub data Access : Type 0 where
   idle : Access
 
+-- the access of a reset cycle, in tables that fetch at their start. So far none does
+abbrev pub IsStartAccess : TableTree → Access → Type 0
+IsStartAccess T access = ⊥
+
 -- the rows of an execution: cycle n makes this access
 pub data Row (T : TableTree) (answers : List Answer) (A : Arch) (i : ℕ) : ℕ → Access → Type 0 where
-  row : {n : ℕ} {access : Access} (B : Arch) (j b phase : ℕ) (c : ClassTree) → Boundary T answers A i B j b → IsClass T j c →
+  row : {n : ℕ} {access : Access} (B : Arch) (j b phase : ℕ) (c : ClassTree) → Boundary T answers A i B j b → IsInside T j c →
       suc phase ≤ cycles_of c → n ≡ b + phase → suc n ≤ length answers → access ≡ idle → Row T answers A i n access

@@ -1,4 +1,4 @@
-use Rattle.std.proofs.Common.{◌≡◌, ℕ, List, Some, refl, subst, string_bytes}
+use Rattle.std.proofs.Common.{◌≡◌, ℕ, List, Some, refl, subst, ◌∙◌, string_bytes}
 use Rattle.std.specs.Prelude.{Option, IfSome}
 use Rattle.lola_port.specs.Outside.{Files, lookup}
 use Rattle.lola_app.specs.Reply.{outcome_of}
@@ -19,5 +19,6 @@ returns-clause-due g c =
         stands = subst (λ (told : Option Files). IfSome told (λ files. lookup files (string_bytes c.args.table.now) ≡ Some c.in-Ok-read_text.text.items)) c.in-Ok.ensures.files c.in-Ok-read_text.ensures.read.1;
       };
     })
+    (λ name. c.in-Ok-read_text.ensures.read.2 name ∙ c.in-Ok.ensures.read.2 name)
     (subst (λ (text : List ℕ). IsDecided c.in-Ok.text.items text (outcome_of c.decide_texts.result)) c.as_slice-2.ensures.value
     (subst (λ (text : List ℕ). IsDecided text c.as_slice-2.result.now (outcome_of c.decide_texts.result)) c.as_slice.ensures.value c.decide_texts.ensures))
