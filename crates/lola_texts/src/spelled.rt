@@ -101,3 +101,42 @@ fn expressions(rt: HostRuntime) -> Result<(), Fail> {
         b"x := SHL(a, 1); x := SHR(a, b + c); x := ASR(a, b); x := ROR(a, b)",
     )
 }
+
+#[test]
+fn the_examples_that_describe_the_language(rt: HostRuntime) -> Result<(), Fail> {
+    let alloc = rt.alloc();
+    is_spelled(
+        &rt,
+        alloc,
+        b"MODULE Toggler(IN clk, rst, t: BIT; OUT o: BIT);\nREG (clk) q: BIT;\nBEGIN\n  q := ~rst & (q ^ t);\n  o := q\nEND Toggler.",
+    );
+    is_spelled(
+        &rt,
+        alloc,
+        b"MODULE Half(IN a, b: BIT; OUT s, c: BIT);\nBEGIN s := a ^ b; c := a & b END Half.",
+    );
+    is_spelled(
+        &rt,
+        alloc,
+        b"MODULE A(); REG (clk) pc: [22] BIT; R: [16] WORD; END A.",
+    );
+    is_spelled(
+        &rt,
+        alloc,
+        b"MODULE A(); CONST n := 3'2; mask := 0FFH'8; END A.",
+    );
+    is_spelled(
+        &rt,
+        alloc,
+        b"MODULE A(); REG (clk) q: BIT; count: BYTE; END A.",
+    );
+    is_spelled(
+        &rt,
+        alloc,
+        b"MODULE A(); VAR sum, carry: BIT; low: Half; END A.",
+    );
+    body(&rt, alloc, b"low(a, b, sum, carry)")?;
+    body(&rt, alloc, b"TS(io, seen, e, off)")?;
+    body(&rt, alloc, b"R[pc[3 : 0]] := d; count := count + 1'8")?;
+    body(&rt, alloc, b"n := c -> {a[6 : 0], a.7} : SHR(a, 1'3) ^ b")
+}
