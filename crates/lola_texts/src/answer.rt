@@ -7,7 +7,7 @@ use std::test::Fail;
 
 /// What becomes of a text. `at` is an offset in bytes.
 #[derive(Clone, Copy, Debug, PartialEq, Eq)]
-pub enum Answer {
+pub(crate) enum Answer {
     Tree,
     BadByte { at: usize },
     NumberTooLarge { at: usize },
@@ -19,7 +19,7 @@ pub enum Answer {
 }
 
 /// What becomes of a text of at most 1,048,576 bytes.
-pub fn read_text(alloc: Global, text: &[u8]) -> Answer {
+pub(crate) fn read_text(alloc: Global, text: &[u8]) -> Answer {
     if text.len() > 1_048_576 {
         return Answer::TooLong;
     }
@@ -40,7 +40,7 @@ pub fn read_text(alloc: Global, text: &[u8]) -> Answer {
 }
 
 /// A front, a byte so many times, and a back.
-pub fn joined(
+pub(crate) fn joined(
     alloc: Global,
     front: &[u8],
     byte: u8,
@@ -58,12 +58,12 @@ pub fn joined(
 }
 
 /// A text is the text of a design.
-pub fn is_spelled(rt: &impl Abort, alloc: Global, text: &[u8]) {
+pub(crate) fn is_spelled(rt: &impl Abort, alloc: Global, text: &[u8]) {
     assert_eq!(rt; read_text(alloc, text), Answer::Tree);
 }
 
 /// No design begins with the front and the first token of the back, and one does with the front alone.
-pub fn stops(rt: &impl Abort, alloc: Global, front: &[u8], back: &[u8]) -> Result<(), Fail> {
+pub(crate) fn stops(rt: &impl Abort, alloc: Global, front: &[u8], back: &[u8]) -> Result<(), Fail> {
     let text = joined(alloc, front, 0, 0, back)?;
     assert_eq!(rt;
         read_text(alloc, text.as_slice()),
@@ -73,7 +73,12 @@ pub fn stops(rt: &impl Abort, alloc: Global, front: &[u8], back: &[u8]) -> Resul
 }
 
 /// The fault of the scanner stands where the back begins.
-pub fn is_bad(rt: &impl Abort, alloc: Global, front: &[u8], back: &[u8]) -> Result<(), Fail> {
+pub(crate) fn is_bad(
+    rt: &impl Abort,
+    alloc: Global,
+    front: &[u8],
+    back: &[u8],
+) -> Result<(), Fail> {
     let text = joined(alloc, front, 0, 0, back)?;
     assert_eq!(rt;
         read_text(alloc, text.as_slice()),
