@@ -1,7 +1,7 @@
 -- The trees that definitions read. They hold no pointers, so two designs that are spelled alike have
 -- one tree; each node keeps its place. Names are lists of bytes. What contains no expression is read
 -- as the code has it.
-use Rattle.std.specs.Prelude.{ℕ, List, map, Option, Some, None}
+use Rattle.std.specs.Prelude.{ℕ, List, [], ◌∷◌, map, Option, Some, None}
 use Rattle.lola_bits.specs.declared.op.Op.{Op}
 use Rattle.lola_tree.specs.declared.named.Named.{Named}
 use Rattle.lola_tree.specs.declared.named.Count.{Count}
@@ -9,6 +9,7 @@ use Rattle.lola_tree.specs.declared.named.Ref.{Ref}
 use Rattle.lola_tree.specs.declared.expr.Expr.{Expr}
 use Rattle.lola_tree.specs.declared.expr.Expr.TheVariants.{Number, Whole, Bit, Slice, Index', Concat', Not', Binary', Choice'}
 use Rattle.lola_tree.specs.declared.expr.Expr.TheBlock.{Row_of-Part, end_of-Part, more_of-Part}
+use Rattle.lola_tree.specs.declared.expr.Part.{Part}
 use Rattle.lola_tree.specs.declared.expr.Actual.{Actual}
 use Rattle.lola_tree.specs.declared.module.Port.{Port}
 use Rattle.lola_tree.specs.declared.module.Const.{Const}
@@ -52,6 +53,11 @@ abbrev mutual
   pub part_trees : {count : _} → Row_of-Part count → Parts
   part_trees end_of-Part = no_part
   part_trees (more_of-Part value times behind) = one_part (tree value) times (part_trees behind)
+
+-- the same over the list of parts, as the code holds them
+abbrev pub parts_tree : List Part → Parts
+parts_tree [] = no_part
+parts_tree (p ∷ more) = one_part (tree p.value) p.times (parts_tree more)
 
 -- an argument, with the place of its first token
 pub record ActualTree : Type 0 where

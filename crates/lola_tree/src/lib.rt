@@ -3,14 +3,20 @@
 //! A source is a list of modules with ports, constants, registers, variables, instances and
 //! statements, all of which hold at once. Each node keeps the place of its token, an offset in bytes
 //! from 0, so that a later fault can name it. Definitions don't read these types: they read the pure
-//! trees of `specs/Tree.antt`, which hold no pointers, through the views there. How a text becomes a
-//! tree, and which trees are well formed, is not known here.
+//! trees of `specs/Tree.antt`, which hold no pointers, through the views there. `print` writes a tree
+//! as a text. How a text becomes a tree, and which trees are well formed, is not known here.
 #![tactic(auto)]
 
 mod expr;
+mod expr_text;
 mod module;
+mod module_text;
 mod named;
+mod printing;
+mod stmt_text;
+mod token_text;
 
 pub use expr::{Actual, Expr, Part};
 pub use module::{Const, Local, LocalKind, Module, Port, Source, Stmt, Way};
 pub use named::{Count, Named, Ref, Shape};
+pub use printing::{print, print_expr};
