@@ -8,3 +8,4 @@ pub mod Reading
 pub mod Digits
 pub mod RunValues
 pub mod Steps
+pub mod Spaced

@@ -75,6 +75,15 @@ IsComment (Number first more hexadecimal width) = ⊥
 IsComment (Pattern inside) = ⊥
 IsComment (Mark bytes) = ⊥
 
+-- a word, a number or a mark
+abbrev pub IsUnquoted : Piece → Type 0
+IsUnquoted (Word first more) = Unit {0}
+IsUnquoted (Number first more hexadecimal width) = Unit {0}
+IsUnquoted (Mark bytes) = Unit {0}
+IsUnquoted (Blank b) = ⊥
+IsUnquoted (Comment inside) = ⊥
+IsUnquoted (Pattern inside) = ⊥
+
 -- the piece that stands at the front of a text: no piece there is longer, and where a comment opens
 -- it is that comment
 pub record IsFront (text : List ℕ) (piece : Piece) (rest : List ℕ) : Type 0 where

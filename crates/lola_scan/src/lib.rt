@@ -14,5 +14,5 @@ mod number;
 mod scanner;
 mod token;
 
-pub use scanner::{one_reading, scan};
+pub use scanner::{one_reading, scan, spaced_tokens};
 pub use token::{ScanError, Token, TokenKind};

@@ -1,4 +1,6 @@
-ghost use Rattle.std.specs.Prelude.{ℕ, List, ◌≤◌, ◌≡◌, ◌++◌, length, OnOk, IfErr};
+ghost use Rattle.std.specs.Prelude.{ℕ, true, List, ◌∷◌, ◌≤◌, ◌≡◌, ◌++◌, length, OnOk, IfErr};
+ghost use Rattle.lola_scan.specs.Bytes.{is_blank};
+ghost use Rattle.lola_scan.specs.Piece.{Piece, Blank, IsPiece, IsUnquoted, IsFront, text_of};
 ghost use Rattle.lola_scan.specs.Tokens.{Scanned, HasOneReading};
 ghost use Rattle.lola_scan.specs.Front.{token_at};
 
@@ -45,4 +47,11 @@ pub fn scan(alloc: Global, bytes: &[u8]) -> Result<Vec<Token>, ScanError>
 /// Each text has one reading: one list of tokens or one first fault, never both.
 pub fn one_reading()
     ensures { (text : List ℕ) → HasOneReading text }
+{}
+
+/// A word, a number or a mark with a blank behind it stands as it is at the front of a text, and so does a
+/// blank: a text with a blank behind each of its tokens is read as these tokens.
+pub fn spaced_tokens()
+    ensures tokens { (piece : Piece) (b : ℕ) (rest : List ℕ) → IsPiece piece → IsUnquoted piece → is_blank b ≡ true → IsFront (text_of piece ++ b ∷ rest) piece (b ∷ rest) }
+    ensures blanks { (b : ℕ) (rest : List ℕ) → is_blank b ≡ true → IsFront (b ∷ rest) (Blank b) rest }
 {}

@@ -1,4 +1,5 @@
 pub mod Cycle
+pub mod Places
 pub mod Print
 pub mod Signals
 pub mod Tree
