@@ -6,3 +6,9 @@ pub mod Levels
 pub mod Expressions
 pub mod ReadExpressions
 pub mod OneExpression
+pub mod Lists
+pub mod Shapes
+pub mod Statements
+pub mod Ports
+pub mod Locals
+pub mod Modules
