@@ -1,5 +1,5 @@
 -- The decimal digits of a number, as the scanner reads them.
-use Rattle.std.proofs.Common.{◌≡◌, ℕ, ◌+◌, ◌*◌, ◌<◌, ◌≤◌, ◌^◌, Bool, true, cond, List, [], ◌∷◌, length, decimal, refl, sym, ap, subst, ◌∙◌, arith}
+use Rattle.std.proofs.Common.{◌≡◌, ℕ, ◌+◌, ◌*◌, ◌<◌, ◌≤◌, ◌^◌, true, List, [], ◌∷◌, length, decimal, refl, sym, ap, subst, ◌∙◌, arith}
 use Rattle.std.proofs.lemmas.Bool.{and_from}
 use Rattle.std.proofs.lemmas.Bool.Decides.{nat_tests}
 use Rattle.std.proofs.lemmas.Fmt.{decimal_is_IsNumeral_wide}
@@ -8,7 +8,7 @@ use Rattle.std.proofs.lemmas.Str.Parse.{digit_from_value}
 use Rattle.std.specs.Char.{digit_value as digit_value_of}
 use Rattle.std.specs.List.{list_all}
 use Rattle.std.specs.Str.Parse.{AllDigits, IsNumeral, digits_value, digits_value_after}
-use Rattle.lola_scan.specs.Bytes.{is_digit, is_hex_digit, digit_value, number_behind, number_of}
+use Rattle.lola_scan.specs.Bytes.{is_digit, digit_value, number_behind, number_of}
 
 one_digit : (c : ℕ) → digit_value_of c < 10 → (is_digit c ≡ true) × (digit_value c ≡ digit_value_of c)
 one_digit c small =
@@ -45,8 +45,10 @@ digits_of n small = go (decimal n) refl
   where
     wide : 2 ^ 128 < 10 ^ 64
     wide = omega arith
+
     numeral : IsNumeral 10 (decimal n) × (digits_value 10 (decimal n) ≡ n)
     numeral = decimal_is_IsNumeral_wide n (omega (arith, wide, small))
+
     go : (cs : List ℕ) → cs ≡ decimal n → Digits n
     go [] e = absurd (let long : 0 < length (decimal n) = numeral.0.0 in let none : length (decimal n) ≡ 0 = ap length (sym e) in omega arith)
     go (c ∷ cs) e =

@@ -1,23 +1,22 @@
 -- Each expression that is read is printed so that it is read again, and with no more tokens.
-use Rattle.std.proofs.Common.{◌≡◌, ℕ, zero, suc, ◌+◌, ◌<◌, ◌≤◌, ◌^◌, Bool, true, false, cond, List, [], ◌∷◌, ◌++◌, length, nat_eq, nat_lt, codes, Option, Some, None, refl, sym, ap, ap₂, subst, ◌∙◌, inl, inr, arith, append-nil}
+use Rattle.std.proofs.Common.{◌≡◌, ℕ, ◌+◌, ◌<◌, ◌≤◌, ◌^◌, false, List, [], ◌∷◌, ◌++◌, length, nat_eq, codes, Option, Some, None, refl, sym, ap, ap₂, subst, ◌∙◌, inl, inr, arith, append-nil}
 use Rattle.std.proofs.lemmas.Bool.{cases_Bool}
 use Rattle.std.proofs.lemmas.Bool.Decides.{nat_tests}
 use Rattle.lola_bits.specs.declared.op.Op.{Op}
-use Rattle.lola_bits.specs.declared.op.Op.TheVariants as op
 use Rattle.lola_tree.specs.declared.named.Count.{Count}
 use Rattle.lola_tree.specs.declared.named.Count.TheVariants as count
 use Rattle.lola_tree.specs.declared.named.Ref.{Ref}
-use Rattle.lola_tree.specs.Tree.{Tree, number, whole, bit, slice, index, concat, negation, binary, choice, Parts, no_part, one_part}
-use Rattle.lola_tree.specs.Places.{placeless_count, placeless_ref, placeless, placeless_parts}
-use Rattle.lola_tree.specs.Print.{name_text, number_text, count_text, ref_text, times_text, expr_text, parts_text, closed, tightness, is_shift, sign_text}
+use Rattle.lola_tree.specs.Tree.{Tree, bit, slice, index, negation, binary, choice}
+use Rattle.lola_tree.specs.Places.{placeless_count, placeless_ref}
+use Rattle.lola_tree.specs.Print.{name_text, count_text, ref_text, times_text, expr_text, tightness, sign_text}
 use Rattle.lola_parse.specs.declared.symbol.Symbol.{Symbol}
 use Rattle.lola_parse.specs.declared.symbol.Symbol.TheVariants as s
 use Rattle.lola_parse.specs.declared.symbol.Language.TheVariants.{Design, Table}
 use Rattle.lola_parse.specs.Symbols.{Item}
-use Rattle.lola_parse.specs.Grammar.{Stands, Passes, Names, Counted, fixed, constant, Reference, plain, source, Times, once, repeated, place_of, Expression, one_rel, chosen, Rel, one_sum, related, Sum, sum, Terms, no_term, one_term, Term, term, Factors, no_factor, one_factor, Factor, negated, numbered, named, one_bit, sliced, indexed, joined, shifted, nested, OnePart, part, MoreParts, no_more, one_more, with_part, relation_of, adding_of, shift_of}
+use Rattle.lola_parse.specs.Grammar.{Stands, Passes, Names, Counted, fixed, constant, Reference, plain, source, Times, once, repeated, chosen, negated, one_bit, sliced, indexed, shifted, shift_of}
 use Rattle.lola_reread.proofs.GoodItems.{AllGood}
 use Rattle.lola_reread.proofs.Prints.{Prints, Then, ◌and◌, read_as, retext, nothing, named as name_printed, numbered as number_printed, IsName, IsWidth}
-use Rattle.lola_reread.proofs.Levels.{At, Again, lower, lower_again, closed_count, count_zero, count_held, count_most, count_more, open_paren, close_paren, open_bracket, close_bracket, open_brace, close_brace, comma, colon, dot, arrow, tilde, bang, Printed, closing, Done, weaken, past_good, past_long, IsInfix, relation_is, adding_is, and_is, IsShift, shift_is, joined as joined_printed}
+use Rattle.lola_reread.proofs.Levels.{Again, lower_again, closed_count, count_zero, count_held, open_paren, close_paren, open_bracket, close_bracket, comma, colon, dot, arrow, tilde, bang, Printed, closing, Done, past_good, past_long, IsShift, shift_is}
 
 table_is_none : Design ≡ Table → ⊥
 table_is_none e = cc
@@ -91,23 +90,23 @@ repeated_again times all rest (behind, ((at, stands), (again, (read, same)))) = 
 repeated_done : (times : Count) (all behind rest : List Item) → length all ≡ 1 + length behind → CountDone times behind rest → TimesDone times all rest
 repeated_done (count.Fixed value at) all behind rest long c = elim (cases_Bool (nat_eq value 1)) [
   | inl e ↦ (
-    let one : value ≡ 1 = grind (arith, nat_tests) in
-    let few = c.few in
-    record {
-      count = 0;
-      printed = retext (rw e refl) refl (read_as {Q = TimesAgain (count.Fixed value at)}
-          (λ xs ys h p. (count.Fixed 1 p, (once refl (sym h), ap (λ (n : ℕ). count.Fixed n 0) (sym one)))) nothing);
-      few = omega arith;
-      good = c.good;
-    })
+      let one : value ≡ 1 = grind (arith, nat_tests) in
+      let few = c.few in
+      record {
+        count = 0;
+        printed = retext (rw e refl) refl (read_as {Q = TimesAgain (count.Fixed value at)}
+            (λ xs ys h p. (count.Fixed 1 p, (once refl (sym h), ap (λ (n : ℕ). count.Fixed n 0) (sym one)))) nothing);
+        few = omega arith;
+        good = c.good;
+      })
   | inr e ↦ (
-    let few = c.few in
-    record {
-      count = 2;
-      printed = retext (rw e refl) refl (read_as {Q = TimesAgain (count.Fixed value at)} (repeated_again (count.Fixed value at)) (bang and c.printed));
-      few = omega arith;
-      good = c.good;
-    })
+      let few = c.few in
+      record {
+        count = 2;
+        printed = retext (rw e refl) refl (read_as {Q = TimesAgain (count.Fixed value at)} (repeated_again (count.Fixed value at)) (bang and c.printed));
+        few = omega arith;
+        good = c.good;
+      })
 ]
 repeated_done (count.Const name) all behind rest long c =
     let few = c.few in
@@ -181,13 +180,15 @@ index_printed r e n at p q = read_as {Q = Again 4 (index r e at)} again (p and (
 pub shift_printed : (a b : Tree) (n m at : ℕ) (o : Op) (symbol : Symbol) → shift_of symbol ≡ Some o → Printed a n → Printed b m → Printed (binary o a b at) (1 + (1 + (n + (1 + (m + 1)))))
 shift_printed a b n m at o symbol reads p q =
     retext text refl (subst (λ j. Prints (sign_text o ++ (codes "( " ++ (expr_text a ++ (codes ", " ++ (expr_text b ++ codes ") "))))) (1 + (1 + (n + (1 + (m + 1))))) (Again j (binary o a b at)))
-      (sym is.tight) (read_as {Q = Again 4 (binary o a b at)} again (is.sign and (open_paren and (at_zero a n p and (comma and (at_zero b m q and close_paren)))))))
+    (sym is.tight) (read_as {Q = Again 4 (binary o a b at)} again (is.sign and (open_paren and (at_zero a n p and (comma and (at_zero b m q and close_paren)))))))
   where
     is : IsShift o symbol
     is = shift_is symbol o reads
+
     again : (all rest : List Item) → Then (Passes symbol) (Then (Passes s.OpenParen) (Then (Again 0 a) (Then (Passes s.Comma) (Then (Again 0 b) (Passes s.CloseParen))))) all rest →
         Again 4 (binary o a b at) all rest
     again all rest (m1, ((ps, st), (m2, ((po, opens), (m3, ((a', (ea, sa)), (m4, ((pc, co), (m5, ((b', (eb, sb)), (pe, cp))))))))))) =
         (binary o a' b' ps, (shifted m1 m2 m3 m4 m5 st reads opens ea co eb cp refl, ap₂ (λ (x y : Tree). binary o x y 0) sa sb))
+
     text : sign_text o ++ (codes "( " ++ (expr_text a ++ (codes ", " ++ (expr_text b ++ codes ") ")))) ≡ expr_text (binary o a b at)
     text = rw is.shift refl

@@ -1,13 +1,13 @@
 -- What the tokens of a text are spelled with: names are words, and numbers are small enough.
-use Rattle.std.proofs.Common.{◌≡◌, ℕ, ◌+◌, ◌<◌, ◌≤◌, ◌^◌, Bool, true, false, cond, not, List, [], ◌∷◌, ◌++◌, length, map, nat_le, bytes_eq, codes, Option, Some, None, refl, sym, ap, subst, ◌∙◌, inl, inr, arith, append_assoc, length-append}
-use Rattle.std.proofs.lemmas.Bool.{and_parts, or_cases, cases_Bool}
+use Rattle.std.proofs.Common.{◌≡◌, ℕ, ◌+◌, ◌<◌, ◌^◌, Bool, true, false, cond, not, List, [], ◌∷◌, ◌++◌, length, nat_le, bytes_eq, codes, Option, Some, None, refl, sym, ap, subst, ◌∙◌, inl, inr, arith, append_assoc, length-append}
+use Rattle.std.proofs.lemmas.Bool.{and_parts, or_cases}
 use Rattle.std.proofs.lemmas.Bool.Decides.{nat_tests}
 use Rattle.std.proofs.lemmas.List.{map-append}
 use Rattle.std.proofs.lemmas.Slice.Eq.{bytes_eq-Decides}
 use Rattle.std.specs.Prelude.{slice_range}
 use Rattle.std.specs.List.{AllByRecursion, list_all, list_any}
 use Rattle.lola_scan.specs.declared.token.Token.{Token}
-use Rattle.lola_scan.specs.Piece.{Piece, Blank, Comment, Word as WordPiece, Number as NumberPiece, Pattern, Mark, IsPiece, text_of, is_mark, marks, run_value, value_or, width_value, is_too_large, fault_of, number_fault, tokens_of, base_text, width_text}
+use Rattle.lola_scan.specs.Piece.{Piece, Blank, Comment, Word as WordPiece, Number as NumberPiece, Pattern, Mark, IsPiece, text_of, marks, run_value, value_or, width_value, is_too_large, fault_of, number_fault, tokens_of}
 use Rattle.lola_scan.specs.Tokens.{Spells, no_piece, one_piece}
 use Rattle.lola_parse.specs.declared.symbol.Symbol.{Symbol}
 use Rattle.lola_parse.specs.declared.symbol.Symbol.TheVariants as s
@@ -109,33 +109,39 @@ piece_good : (piece : Piece) (before rest : List ℕ) → IsPiece piece → faul
 piece_good (Blank b) before rest p sound = tt
 piece_good (Comment inside) before rest p sound = tt
 piece_good (WordPiece first more) before rest p sound =
-    let at = range_at before (first ∷ more) rest in
-    (record {
-      name = λ e. record {
-        first = first;
-        more = more;
-        is = at;
-        letter = p.0;
-        others = p.1;
-        free = ap (word_symbol Design) (sym at) ∙ e;
-      };
-      number = λ value width e.
-          absurd (let f = word_no_number (slice_range (before ++ ((first ∷ more) ++ rest)) (length before) (length before + length (first ∷ more))) in let g = ap is_number e in cc);
-    }, tt)
+    let at = range_at before (first ∷ more) rest in (
+      record {
+        name = λ e. record {
+          first = first;
+          more = more;
+          is = at;
+          letter = p.0;
+          others = p.1;
+          free = ap (word_symbol Design) (sym at) ∙ e;
+        };
+        number = λ value width e.
+            absurd (let f = word_no_number (slice_range (before ++ ((first ∷ more) ++ rest)) (length before) (length before + length (first ∷ more))) in let g = ap is_number e in cc);
+      },
+      tt,
+    )
 piece_good (NumberPiece first more hexadecimal width) before rest p sound =
-    let sure = number_sound (length before) (first ∷ more) hexadecimal width sound in
-    (record {
-      name = λ e. cc;
-      number = λ value w e. (subst (λ n. n < 2 ^ 128) (the_value e) sure.0, subst IsWidth (the_width e) sure.1);
-    }, tt)
+    let sure = number_sound (length before) (first ∷ more) hexadecimal width sound in (
+      record {
+        name = λ e. cc;
+        number = λ value w e. (subst (λ n. n < 2 ^ 128) (the_value e) sure.0, subst IsWidth (the_width e) sure.1);
+      },
+      tt,
+    )
 piece_good (Pattern inside) before rest p sound = (record { name = λ e. cc; number = λ value width e. cc }, tt)
 piece_good (Mark bytes) before rest p sound =
     let at = range_at before bytes rest in
-    let mere = of_mark marks bytes refl p in
-    (record {
-      name = λ e. absurd (mere_no_name (mark_symbol bytes) mere (ap mark_symbol (sym at) ∙ e));
-      number = λ value width e. absurd (mere_no_number (mark_symbol bytes) value width mere (ap mark_symbol (sym at) ∙ e));
-    }, tt)
+    let mere = of_mark marks bytes refl p in (
+      record {
+        name = λ e. absurd (mere_no_name (mark_symbol bytes) mere (ap mark_symbol (sym at) ∙ e));
+        number = λ value width e. absurd (mere_no_number (mark_symbol bytes) value width mere (ap mark_symbol (sym at) ∙ e));
+      },
+      tt,
+    )
 
 both_good : (xs ys : List Item) → AllGood xs → AllGood ys → AllGood (xs ++ ys)
 both_good [] ys p q = q
@@ -149,7 +155,7 @@ tokens_good before text at tokens here (one_piece piece rest behind front sound 
     let whole : (before ++ text_of piece) ++ rest ≡ before ++ text = append_assoc before (text_of piece) rest ∙ ap (λ xs. before ++ xs) (sym front.splits) in
     let later = subst (λ xs. AllGood (items_of Design xs behind)) whole ih in
     let first = subst (λ xs. AllGood (items_of Design (before ++ xs) (tokens_of (length before) piece))) (sym front.splits)
-      (piece_good piece before rest front.is_piece (subst (λ n. fault_of n piece ≡ None) here sound)) in
+    (piece_good piece before rest front.is_piece (subst (λ n. fault_of n piece ≡ None) here sound)) in
     let list : tokens ≡ tokens_of (length before) piece ++ behind = subst (λ n. tokens ≡ tokens_of n piece ++ behind) here is in
     subst (λ ts. AllGood (items_of Design (before ++ text) ts)) (sym list)
     (subst AllGood (sym (map-append _ (tokens_of (length before) piece) behind)) (both_good _ _ first later))

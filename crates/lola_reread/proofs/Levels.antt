@@ -1,5 +1,5 @@
 -- Printed expressions at each level of the grammar, and what stands between them.
-use Rattle.std.proofs.Common.{◌≡◌, ℕ, zero, suc, ◌+◌, ◌<◌, ◌≤◌, Bool, true, false, cond, List, [], ◌∷◌, ◌++◌, length, nat_lt, codes, Some, None, refl, sym, ap, ap₂, subst, ◌∙◌, inl, inr, arith}
+use Rattle.std.proofs.Common.{◌≡◌, ℕ, zero, suc, ◌+◌, ◌≤◌, true, false, cond, List, ◌++◌, length, nat_lt, codes, Some, refl, sym, ap, ap₂, subst, ◌∙◌, inl, inr, arith}
 use Rattle.std.proofs.lemmas.Bool.{cases_lt, cases_Bool}
 use Rattle.std.proofs.lemmas.Bool.Decides.{nat_tests}
 use Rattle.lola_bits.specs.declared.op.Op.{Op}
@@ -11,7 +11,7 @@ use Rattle.lola_parse.specs.declared.symbol.Symbol.{Symbol}
 use Rattle.lola_parse.specs.declared.symbol.Symbol.TheVariants as s
 use Rattle.lola_parse.specs.declared.symbol.Language.TheVariants.{Design}
 use Rattle.lola_parse.specs.Symbols.{Item}
-use Rattle.lola_parse.specs.Grammar.{Stands, Passes, Expression, one_rel, Rel, one_sum, related, Sum, sum, Terms, no_term, one_term, Term, term, Factors, no_factor, one_factor, Factor, nested, relation_of, adding_of, shift_of}
+use Rattle.lola_parse.specs.Grammar.{Stands, Passes, Expression, one_rel, Rel, one_sum, Sum, sum, no_term, Term, term, no_factor, Factor, nested, relation_of, adding_of, shift_of}
 use Rattle.lola_reread.proofs.GoodItems.{AllGood}
 use Rattle.lola_reread.proofs.Prints.{Prints, Then, ◌and◌, read_as, retext, mark, reserved}
 
@@ -114,12 +114,12 @@ Printed e n = Prints (expr_text e) n (Again (tightness e) e)
 pub closing : (e : Tree) (n k : ℕ) → k ≤ 4 → Printed e n → Prints (closed k (tightness e) (expr_text e)) (closed_count k (tightness e) n) (Again k e)
 closing e n k less p = elim (cases_Bool (nat_lt (tightness e) k)) [
   | inl f ↦ (
-    let enclosed = open_paren and (read_as {Q = Again 0 e} (lower_again (tightness e) 0 e (omega arith)) p and close_paren) in
-    let inside = read_as {Q = Again k e} (λ all rest h. nested_again all rest h) enclosed in
-    retext (rw f refl) (rw f (omega arith)) inside)
+      let enclosed = open_paren and (read_as {Q = Again 0 e} (lower_again (tightness e) 0 e (omega arith)) p and close_paren) in
+      let inside = read_as {Q = Again k e} (λ all rest h. nested_again all rest h) enclosed in
+      retext (rw f refl) (rw f (omega arith)) inside)
   | inr f ↦ (
-    let held : k ≤ tightness e = grind (arith, nat_tests) in
-    retext (rw f refl) (rw f refl) (read_as {Q = Again k e} (lower_again (tightness e) k e held) p))
+      let held : k ≤ tightness e = grind (arith, nat_tests) in
+      retext (rw f refl) (rw f refl) (read_as {Q = Again k e} (lower_again (tightness e) k e held) p))
 ]
   where
     nested_again : (all rest : List Item) → Then (Passes s.OpenParen) (Then (Again 0 e) (Passes s.CloseParen)) all rest → Again k e all rest
@@ -204,13 +204,15 @@ pub joined : (a b : Tree) (n m at : ℕ) (o : Op) (k l r : ℕ) (symbol : Symbol
     Printed (binary o a b at) (closed_count l (tightness a) n + (1 + closed_count r (tightness b) m))
 joined a b n m at o k l r symbol is lo hi pa pb make =
     retext text refl (subst (λ j. Prints (closed l (tightness a) (expr_text a) ++ (sign_text o ++ closed r (tightness b) (expr_text b)))
-      (closed_count l (tightness a) n + (1 + closed_count r (tightness b) m)) (Again j (binary o a b at))) (sym is.tight) (read_as {Q = Again k (binary o a b at)} again both))
+    (closed_count l (tightness a) n + (1 + closed_count r (tightness b) m)) (Again j (binary o a b at))) (sym is.tight) (read_as {Q = Again k (binary o a b at)} again both))
   where
     both : Prints (closed l (tightness a) (expr_text a) ++ (sign_text o ++ closed r (tightness b) (expr_text b))) (closed_count l (tightness a) n + (1 + closed_count r (tightness b) m))
         (Then (Again l a) (Then (Passes symbol) (Again r b)))
     both = closing a n l lo pa and (is.sign and closing b m r hi pb)
+
     again : (all rest : List Item) → Then (Again l a) (Then (Passes symbol) (Again r b)) all rest → Again k (binary o a b at) all rest
-    again all rest (sign, ((a', (left, same)), (behind, ((p, stands), (b', (right, same'))))))  =
+    again all rest (sign, ((a', (left, same)), (behind, ((p, stands), (b', (right, same')))))) =
         (binary o a' b' p, (make all sign behind rest a' b' p left stands right, ap₂ (λ (x y : Tree). binary o x y 0) same same'))
+
     text : closed l (tightness a) (expr_text a) ++ (sign_text o ++ closed r (tightness b) (expr_text b)) ≡ expr_text (binary o a b at)
     text = rw (is.shift, is.left, is.right) refl

@@ -1,5 +1,5 @@
 -- Registers, variables and instances are printed so that they are read again.
-use Rattle.std.proofs.Common.{◌≡◌, ℕ, ◌+◌, Bool, true, false, cond, List, [], ◌∷◌, ◌++◌, map, bytes_eq, codes, refl, sym, ap, ap₂, subst, ◌∙◌, inl, inr}
+use Rattle.std.proofs.Common.{◌≡◌, ℕ, true, List, [], ◌∷◌, ◌++◌, map, codes, refl, sym, ap, ap₂, subst, ◌∙◌, inl, inr}
 use Rattle.std.proofs.lemmas.Bool.{cases_Bool}
 use Rattle.std.proofs.lemmas.Slice.Eq.{bytes_eq-Decides}
 use Rattle.std.specs.List.{AllByRecursion}
@@ -9,12 +9,12 @@ use Rattle.lola_tree.specs.declared.module.Const.{Const}
 use Rattle.lola_tree.specs.declared.module.LocalKind.{LocalKind}
 use Rattle.lola_tree.specs.declared.module.LocalKind.TheVariants.{Reg, Var, Inst}
 use Rattle.lola_tree.specs.declared.module.Local.{Local}
-use Rattle.lola_tree.specs.Places.{placeless_name, placeless_shape, placeless_kind, placeless_local}
-use Rattle.lola_tree.specs.Print.{name_text, shape_text, head_text, kind_text, local_text, shares_head, more_locals, locals_text}
+use Rattle.lola_tree.specs.Places.{placeless_kind, placeless_local}
+use Rattle.lola_tree.specs.Print.{name_text, head_text, kind_text, local_text, shares_head, more_locals, locals_text}
 use Rattle.lola_parse.specs.declared.symbol.Symbol.TheVariants as s
 use Rattle.lola_parse.specs.Symbols.{Item}
-use Rattle.lola_parse.specs.Grammar.{Stands, Passes, Names}
-use Rattle.lola_parse.specs.Design.{NameList, Shaped, local_of, RegisterRow, register_row, MoreRegisters, no_register, next_register, Registers, registers, VariableKind, variable, instance, VariableRow, variable_row, MoreVariables, no_variable, next_variable, Declarations, no_declaration, with_constants, with_registers, with_variables}
+use Rattle.lola_parse.specs.Grammar.{Passes}
+use Rattle.lola_parse.specs.Design.{local_of, RegisterRow, register_row, MoreRegisters, no_register, next_register, Registers, registers, VariableKind, variable, instance, VariableRow, variable_row, MoreVariables, no_variable, next_variable, Declarations, no_declaration, with_constants, with_registers, with_variables}
 use Rattle.lola_reread.proofs.GoodItems.{AllGood}
 use Rattle.lola_reread.proofs.Prints.{Prints, Then, ◌and◌, read_as, retext, nothing, reserved, named, IsName}
 use Rattle.lola_reread.proofs.Levels.{colon, open_paren, close_paren, past_good}
@@ -112,18 +112,24 @@ row_printed (Reg clock t) name good kind = record { count = _; printed = read_as
   where
     again : (all rest : List Item) → Then (NameAgain name) (Then (Passes s.Colon) (Then (ShapeAgain t) (Passes s.Semicolon))) all rest → RowAgain (Reg clock t) name all rest
     again all rest (m1, ((at, n), (m2, ((c, co), (m3, ((t', (shaped, same)), (q, semi))))))) = λ clock' e before.
-        let one : Named = record { name = name; at = at } in
-        (local_of (Reg clock' t') one,
-         (register_row {names = one ∷ []} m1 m2 m3 (one_listed one all m1 n) co shaped semi refl,
-          ap₂ (λ (x : List ℕ) (y : Shape). let r : Local = record { kind = Reg (record { name = x; at = 0 }) y; name = name; at = 0 } in r) e same))
+        let one : Named = record { name = name; at = at } in (
+          local_of (Reg clock' t') one,
+          (
+            register_row {names = one ∷ []} m1 m2 m3 (one_listed one all m1 n) co shaped semi refl,
+            ap₂ (λ (x : List ℕ) (y : Shape). let r : Local = record { kind = Reg (record { name = x; at = 0 }) y; name = name; at = 0 } in r) e same,
+          ),
+        )
 row_printed (Var t) name good kind = record { count = _; printed = read_as {Q = RowAgain (Var t) name} again (named name good and (colon and (kind.printed and semicolon))) }
   where
     again : (all rest : List Item) → Then (NameAgain name) (Then (Passes s.Colon) (Then (ShapeAgain t) (Passes s.Semicolon))) all rest → RowAgain (Var t) name all rest
     again all rest (m1, ((at, n), (m2, ((c, co), (m3, ((t', (shaped, same)), (q, semi))))))) = λ before.
-        let one : Named = record { name = name; at = at } in
-        (local_of (Var t') one,
-         (variable_row {names = one ∷ []} m1 m2 m3 (one_listed one all m1 n) co (variable t' shaped refl) semi refl,
-          ap (λ (y : Shape). let r : Local = record { kind = Var y; name = name; at = 0 } in r) same))
+        let one : Named = record { name = name; at = at } in (
+          local_of (Var t') one,
+          (
+            variable_row {names = one ∷ []} m1 m2 m3 (one_listed one all m1 n) co (variable t' shaped refl) semi refl,
+            ap (λ (y : Shape). let r : Local = record { kind = Var y; name = name; at = 0 } in r) same,
+          ),
+        )
 row_printed (Inst of) name good kind = record { count = _; printed = read_as {Q = RowAgain (Inst of) name} again (named name good and (colon and (named of.name kind and semicolon))) }
   where
     again : (all rest : List Item) → Then (NameAgain name) (Then (Passes s.Colon) (Then (NameAgain of.name) (Passes s.Semicolon))) all rest → RowAgain (Inst of) name all rest
@@ -165,53 +171,65 @@ headed : (kind : LocalKind) (name : List ℕ) (at : ℕ) (added : List Local) �
 headed (Reg clock t) name at added good kind inside = record {
   count = _;
   printed = read_as {Q = HeadedAgain (record { kind = Reg clock t; name = name; at = at } ∷ added)} again
-    ((reserved 82 (codes "EG") 32 s.Reg refl refl refl refl and (open_paren and (named clock.name kind.0 and close_paren))) and (row.printed and inside.printed));
+      ((reserved 82 (codes "EG") 32 s.Reg refl refl refl refl and (open_paren and (named clock.name kind.0 and close_paren))) and (row.printed and inside.printed));
 }
   where
     row : RowPrinted (Reg clock t) name
     row = row_printed (Reg clock t) name good kind
+
     again : (all rest : List Item) →
         Then (Then (Passes s.Reg) (Then (Passes s.OpenParen) (Then (NameAgain clock.name) (Passes s.CloseParen)))) (Then (RowAgain (Reg clock t) name) (InsideAgain (Reg clock t) added)) all rest →
         HeadedAgain (record { kind = Reg clock t; name = name; at = at } ∷ added) all rest
     again all rest (m1, ((k1, ((p, reg), (k2, ((q, op), (k3, ((c, cname), (r, cp))))))), (m2, (read, more)))) = λ consts before.
         let clock' : Named = record { name = clock.name; at = c } in
         let one = read clock' refl before in
-        let go = more clock' refl consts (before ++ one.0 ∷ []) in
-        (go.1.1.0,
-         (with_registers k1 go.1.0 reg (registers {clock = clock'} k2 k3 m1 m2 op cname cp one.1.0 go.1.1.1.0) go.1.1.1.1.0,
-          grown placeless_local before added go.1.1.0 one.0 (record { kind = Reg clock t; name = name; at = at }) go.1.1.1.1.1 one.1.1))
+        let go = more clock' refl consts (before ++ one.0 ∷ []) in (
+          go.1.1.0,
+          (
+            with_registers k1 go.1.0 reg (registers {clock = clock'} k2 k3 m1 m2 op cname cp one.1.0 go.1.1.1.0) go.1.1.1.1.0,
+            grown placeless_local before added go.1.1.0 one.0 (record { kind = Reg clock t; name = name; at = at }) go.1.1.1.1.1 one.1.1,
+          ),
+        )
 headed (Var t) name at added good kind inside = record {
   count = _;
   printed = read_as {Q = HeadedAgain (record { kind = Var t; name = name; at = at } ∷ added)} again
-    (reserved 86 (codes "AR") 32 s.Var refl refl refl refl and (row.printed and inside.printed));
+      (reserved 86 (codes "AR") 32 s.Var refl refl refl refl and (row.printed and inside.printed));
 }
   where
     row : RowPrinted (Var t) name
     row = row_printed (Var t) name good kind
+
     again : (all rest : List Item) → Then (Passes s.Var) (Then (RowAgain (Var t) name) (InsideAgain (Var t) added)) all rest →
         HeadedAgain (record { kind = Var t; name = name; at = at } ∷ added) all rest
     again all rest (m1, ((p, var), (m2, (read, more)))) = λ consts before.
         let one = read before in
-        let go = more consts (before ++ one.0 ∷ []) in
-        (go.1.1.0,
-         (with_variables m1 go.1.0 var (next_variable m2 one.1.0 go.1.1.1.0) go.1.1.1.1.0,
-          grown placeless_local before added go.1.1.0 one.0 (record { kind = Var t; name = name; at = at }) go.1.1.1.1.1 one.1.1))
+        let go = more consts (before ++ one.0 ∷ []) in (
+          go.1.1.0,
+          (
+            with_variables m1 go.1.0 var (next_variable m2 one.1.0 go.1.1.1.0) go.1.1.1.1.0,
+            grown placeless_local before added go.1.1.0 one.0 (record { kind = Var t; name = name; at = at }) go.1.1.1.1.1 one.1.1,
+          ),
+        )
 headed (Inst of) name at added good kind inside = record {
   count = _;
   printed = read_as {Q = HeadedAgain (record { kind = Inst of; name = name; at = at } ∷ added)} again
-    (reserved 86 (codes "AR") 32 s.Var refl refl refl refl and (row.printed and inside.printed));
+      (reserved 86 (codes "AR") 32 s.Var refl refl refl refl and (row.printed and inside.printed));
 }
   where
     row : RowPrinted (Inst of) name
     row = row_printed (Inst of) name good kind
+
     again : (all rest : List Item) → Then (Passes s.Var) (Then (RowAgain (Inst of) name) (InsideAgain (Inst of) added)) all rest →
         HeadedAgain (record { kind = Inst of; name = name; at = at } ∷ added) all rest
     again all rest (m1, ((p, var), (m2, (read, more)))) = λ consts before.
         let one = read before in
-        let go = more consts (before ++ one.0 ∷ []) in
-        (go.1.1.0,
-         (with_variables m1 go.1.0 var (next_variable m2 one.1.0 go.1.1.1.0) go.1.1.1.1.0,
-          grown placeless_local before added go.1.1.0 one.0 (record { kind = Inst of; name = name; at = at }) go.1.1.1.1.1 one.1.1))
+        let go = more consts (before ++ one.0 ∷ []) in (
+          go.1.1.0,
+          (
+            with_variables m1 go.1.0 var (next_variable m2 one.1.0 go.1.1.1.0) go.1.1.1.1.0,
+            grown placeless_local before added go.1.1.0 one.0 (record { kind = Inst of; name = name; at = at }) go.1.1.1.1.1 one.1.1,
+          ),
+        )
 
 inside_none : (kind : LocalKind) → InsidePrinted kind []
 inside_none (Reg clock t) = record {
@@ -238,9 +256,22 @@ variable_inside : (kind : LocalKind) (name : List ℕ) (at : ℕ) (added : List 
     VariablesAgain (record { kind = kind; name = name; at = at } ∷ added) all rest
 variable_inside kind name at added all rest (m1, (read, more)) = λ consts before.
     let one = read before in
-    let go = more consts (before ++ one.0 ∷ []) in
-    (go.0, (go.1.0, (go.1.1.0, (next_variable m1 one.1.0 go.1.1.1.0, (go.1.1.1.1.0,
-      grown placeless_local before added go.1.1.0 one.0 (record { kind = kind; name = name; at = at }) go.1.1.1.1.1 one.1.1)))))
+    let go = more consts (before ++ one.0 ∷ []) in (
+      go.0,
+      (
+        go.1.0,
+        (
+          go.1.1.0,
+          (
+            next_variable m1 one.1.0 go.1.1.1.0,
+            (
+              go.1.1.1.1.0,
+              grown placeless_local before added go.1.1.0 one.0 (record { kind = kind; name = name; at = at }) go.1.1.1.1.1 one.1.1,
+            ),
+          ),
+        ),
+      ),
+    )
 
 -- one more under the same head
 shared_inside : (before kind : LocalKind) (name : List ℕ) (at : ℕ) (added : List Local) → shares_head before kind ≡ true → (all rest : List Item) → Then (RowAgain kind name) (InsideAgain kind added) all rest →
@@ -248,9 +279,22 @@ shared_inside : (before kind : LocalKind) (name : List ℕ) (at : ℕ) (added : 
 shared_inside (Reg clock t) (Reg other u) name at added e all rest (m1, (read, more)) = λ clock' f consts before.
     let same = f ∙ (bytes_eq-Decides clock.name other.name).0 e in
     let one = read clock' same before in
-    let go = more clock' same consts (before ++ one.0 ∷ []) in
-    (go.0, (go.1.0, (go.1.1.0, (next_register m1 one.1.0 go.1.1.1.0, (go.1.1.1.1.0,
-      grown placeless_local before added go.1.1.0 one.0 (record { kind = Reg other u; name = name; at = at }) go.1.1.1.1.1 one.1.1)))))
+    let go = more clock' same consts (before ++ one.0 ∷ []) in (
+      go.0,
+      (
+        go.1.0,
+        (
+          go.1.1.0,
+          (
+            next_register m1 one.1.0 go.1.1.1.0,
+            (
+              go.1.1.1.1.0,
+              grown placeless_local before added go.1.1.0 one.0 (record { kind = Reg other u; name = name; at = at }) go.1.1.1.1.1 one.1.1,
+            ),
+          ),
+        ),
+      ),
+    )
 shared_inside (Var t) (Var u) name at added e all rest h = variable_inside (Var u) name at added all rest h
 shared_inside (Var t) (Inst m) name at added e all rest h = variable_inside (Inst m) name at added all rest h
 shared_inside (Inst of) (Var u) name at added e all rest h = variable_inside (Var u) name at added all rest h

@@ -1,29 +1,27 @@
 -- Modules and designs are printed so that they are read again.
-use Rattle.std.proofs.Common.{◌≡◌, ℕ, ◌+◌, List, [], ◌∷◌, ◌++◌, map, codes, refl, sym, ap, ap₂, subst, ◌∙◌, append-nil, append_assoc}
+use Rattle.std.proofs.Common.{◌≡◌, ℕ, ◌+◌, List, [], ◌∷◌, ◌++◌, map, codes, refl, sym, ap, subst, ◌∙◌, append-nil, append_assoc}
 use Rattle.std.specs.List.{AllByRecursion}
-use Rattle.lola_tree.specs.declared.named.Named.{Named}
-use Rattle.lola_tree.specs.declared.module.Port.{Port}
 use Rattle.lola_tree.specs.declared.module.Const.{Const}
 use Rattle.lola_tree.specs.declared.module.Local.{Local}
-use Rattle.lola_tree.specs.Tree.{StmtTree, ModuleTree, SourceTree}
-use Rattle.lola_tree.specs.Places.{placeless_name, placeless_port, placeless_const, placeless_local, placeless_stmt, placeless_module, placeless_source}
+use Rattle.lola_tree.specs.Tree.{ModuleTree, SourceTree}
+use Rattle.lola_tree.specs.Places.{placeless_const, placeless_module}
 use Rattle.lola_tree.specs.Print.{consts_text, title_text, module_text, modules_text, source_text}
 use Rattle.lola_scan.specs.declared.token.Token.{Token}
 use Rattle.lola_scan.specs.Tokens.{Spells}
 use Rattle.lola_parse.specs.declared.symbol.Symbol.TheVariants as s
 use Rattle.lola_parse.specs.declared.symbol.Language.TheVariants.{Design}
 use Rattle.lola_parse.specs.Symbols.{Item, items_of}
-use Rattle.lola_parse.specs.Grammar.{Stands, Passes, Names}
-use Rattle.lola_parse.specs.Design.{Ports, Declarations, with_constants, Begun, OneModule, one_module, MoreModules, no_module, next_module, SpellsSource, spells}
+use Rattle.lola_parse.specs.Grammar.{Passes}
+use Rattle.lola_parse.specs.Design.{Declarations, with_constants, OneModule, one_module, MoreModules, no_module, next_module, SpellsSource, spells}
 use Rattle.lola_reread.specs.Again.{IsDesignAgain}
 use Rattle.lola_reread.proofs.Words.{SpacedLaw, BlankLaw, IsLexed, lexed, words_text}
 use Rattle.lola_reread.proofs.GoodItems.{AllGood, items_good}
-use Rattle.lola_reread.proofs.Prints.{Prints, Then, ◌and◌, read_as, retext, nothing, mark, reserved, named, IsName}
+use Rattle.lola_reread.proofs.Prints.{Prints, Then, ◌and◌, read_as, nothing, mark, reserved, named, IsName}
 use Rattle.lola_reread.proofs.Levels.{open_paren, close_paren, past_good}
 use Rattle.lola_reread.proofs.Expressions.{past_name}
 use Rattle.lola_reread.proofs.Lists.{grown, grown_none}
 use Rattle.lola_reread.proofs.Statements.{NameAgain, semicolon, StmtPrinted, begun_done, BodyAgain, BodyPrinted, body_printed}
-use Rattle.lola_reread.proofs.Ports.{PortGood, ports_done, PortsAgain, PortsPrinted, ports_printed, ConstGood, MoreConstsAgain, MoreConstsPrinted, more_consts_printed}
+use Rattle.lola_reread.proofs.Ports.{PortGood, ports_done, PortsAgain, PortsPrinted, ports_printed, ConstGood, MoreConstsAgain, more_consts_printed}
 use Rattle.lola_reread.proofs.Locals.{LocalGood, declarations_done, HeadedAgain, LocalsPrinted, locals_printed}
 
 -- the constants before any locals
@@ -71,33 +69,51 @@ module_printed : (m : ModuleTree) → ModuleGood m → ModulePrinted m
 module_printed m good = record {
   count = _;
   printed = read_as {Q = ModuleAgain m} again
-    (title and (consts.printed and (locals.printed and (body.printed and (reserved 69 (codes "ND") 32 s.End refl refl refl refl and (named m.ends.name good.ends and mark (codes ".") 10 s.Dot refl refl refl))))));
+      (title and (consts.printed and (locals.printed and (body.printed and (reserved 69 (codes "ND") 32 s.End refl refl refl refl and (named m.ends.name good.ends and mark (codes ".") 10 s.Dot refl refl refl))))));
 }
   where
     ports : PortsPrinted m.ports
     ports = ports_printed m.ports good.ports
+
     consts : ConstsPrinted m.consts
     consts = consts_printed m.consts good.consts
+
     locals : LocalsPrinted m.locals
     locals = locals_printed m.locals good.locals
+
     body : BodyPrinted m.body
     body = body_printed m.body good.body
+
     title : Prints (title_text m) (1 + (1 + (1 + (ports.count + 2)))) (TitleAgain m)
     title = reserved 77 (codes "ODULE") 32 s.Module refl refl refl refl and (named m.name good.name and (open_paren and (ports.printed and (close_paren and semicolon))))
+
     again : (all rest : List Item) →
         Then (TitleAgain m) (Then (ConstsAgain m.consts) (Then (HeadedAgain m.locals) (Then (BodyAgain m.body) (Then (Passes s.End) (Then (NameAgain m.ends.name) (Passes s.Dot)))))) all rest →
         ModuleAgain m all rest
-    again all rest
-        (m1, ((t1, ((p, md), (t2, ((at, nm), (t3, ((q, op), (t4, ((ports', (pd, sp)), (t5, ((r, cp), (t, semi))))))))))),
-        (m2, ((consts', (declared, sc)), (m3, (local_read, (m4, ((body', (bg, sb)), (m5, ((e, end), (m6, ((ea, en), (d, dt))))))))))))) =
+    again all rest (
+      m1,
+      (
+        (t1, ((p, md), (t2, ((at, nm), (t3, ((q, op), (t4, ((ports', (pd, sp)), (t5, ((r, cp), (t, semi))))))))))),
+        (m2, ((consts', (declared, sc)), (m3, (local_read, (m4, ((body', (bg, sb)), (m5, ((e, end), (m6, ((ea, en), (d, dt))))))))))),
+      ),
+    ) =
         let locals' = local_read consts' [] in
         let again : ModuleTree = record {
-          name = m.name; ports = ports'; consts = consts'; locals = locals'.0; body = body'; ends = record { name = m.ends.name; at = ea }; at = at;
-        } in
-        (again,
-         (one_module {title = record { name = m.name; at = at }} {ends = record { name = m.ends.name; at = ea }} t1 t2 t3 t4 t5 m1 m3 m4 m5 m6 md nm op pd cp semi
-           (declared locals'.0 m3 locals'.1.0) bg end en dt refl,
-          rw (sp, sc, sb, locals'.1.1) refl))
+          name = m.name;
+          ports = ports';
+          consts = consts';
+          locals = locals'.0;
+          body = body';
+          ends = record { name = m.ends.name; at = ea };
+          at = at;
+        } in (
+          again,
+          (
+            one_module {title = record { name = m.name; at = at }} {ends = record { name = m.ends.name; at = ea }} t1 t2 t3 t4 t5 m1 m3 m4 m5 m6 md nm op pd cp semi
+                (declared locals'.0 m3 locals'.1.0) bg end en dt refl,
+            rw (sp, sc, sb, locals'.1.1) refl,
+          ),
+        )
 
 module_done : (m : ModuleTree) (all rest : List Item) → OneModule all m rest → AllGood all → ModulePrinted m × AllGood rest
 module_done m all rest
@@ -158,9 +174,10 @@ source_printed m added one more = read_as {Q = SourceAgain (m ∷ added)} again 
   where
     again : (all rest : List Item) → Then (ModuleAgain m) (MoreModulesAgain added) all rest → SourceAgain (m ∷ added) all rest
     again all rest (m1, ((m', (read, same)), others)) =
-        let go = others (m' ∷ []) in
-        (record { modules = go.0 },
-         ((λ none. spells m1 read (subst (λ is. MoreModules (m' ∷ []) m1 go.0 is) none go.1.0)), go.1.1 ∙ ap (λ x. x ∷ map placeless_module added) same))
+        let go = others (m' ∷ []) in (
+          record { modules = go.0 },
+          ((λ none. spells m1 read (subst (λ is. MoreModules (m' ∷ []) m1 go.0 is) none go.1.0)), go.1.1 ∙ ap (λ x. x ∷ map placeless_module added) same),
+        )
 
 pub design_again : SpacedLaw → BlankLaw → (text : List ℕ) (tokens : List Token) (S : SourceTree) → Spells 0 text tokens → SpellsSource (items_of Design text tokens) S → IsDesignAgain (source_text S) S
 design_again spaced blanks text tokens S spelled (spells {m = m} behind one more) = record {
@@ -173,15 +190,21 @@ design_again spaced blanks text tokens S spelled (spells {m = m} behind one more
   where
     d : ModulePrinted m × AllGood behind
     d = module_done m (items_of Design text tokens) behind one (items_good text tokens spelled)
+
     ds : ModulesDone (m ∷ []) S.modules []
     ds = more_modules_done (m ∷ []) S.modules behind [] more d.1
+
     later : MoreModulesPrinted ds.added
     later = more_modules_printed ds.added ds.each
+
     p : Prints (modules_text (m ∷ ds.added)) (d.0.count + later.count) (SourceAgain (m ∷ ds.added))
     p = source_printed m ds.added d.0 later
+
     lex : IsLexed [] p.words
     lex = lexed spaced blanks [] p.words p.good
+
     again : SourceAgain (m ∷ ds.added) (items_of Design ([] ++ words_text p.words) lex.tokens) []
     again = p.read (items_of Design ([] ++ words_text p.words) lex.tokens) [] lex.shown
+
     same_text : words_text p.words ≡ source_text S
     same_text = p.spelled ∙ ap modules_text (sym ds.is)

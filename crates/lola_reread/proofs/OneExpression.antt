@@ -1,20 +1,19 @@
 -- An expression that stands in a text is spelled again by the text that it is printed as.
-use Rattle.std.proofs.Common.{◌≡◌, ℕ, zero, suc, ◌+◌, ◌-◌, ◌<◌, ◌≤◌, List, [], ◌∷◌, ◌++◌, length, map, drop, refl, sym, ap, subst, ◌∙◌, inl, inr, ◌⊎◌, arith, length-drop}
+use Rattle.std.proofs.Common.{◌≡◌, ℕ, zero, suc, ◌+◌, ◌-◌, ◌<◌, ◌≤◌, List, [], ◌∷◌, length, drop, sym, ap, subst, ◌∙◌, arith, length-drop}
 use Rattle.std.proofs.lemmas.List.{drop_all, drop-map, length-map}
 use Rattle.lola_tree.specs.Tree.{Tree}
 use Rattle.lola_tree.specs.Places.{placeless}
 use Rattle.lola_tree.specs.Print.{expr_text, tightness}
 use Rattle.lola_scan.specs.declared.token.Token.{Token}
 use Rattle.lola_scan.specs.Tokens.{Spells}
-use Rattle.lola_parse.specs.declared.symbol.Symbol.{Symbol}
 use Rattle.lola_parse.specs.declared.symbol.Language.TheVariants.{Design}
 use Rattle.lola_parse.specs.Symbols.{Item, item_of, items_of}
-use Rattle.lola_parse.specs.Grammar.{Stands, Names, Words, Reference, plain, source, Expression, one_rel, chosen, Rel, one_sum, related, Sum, sum, Term, term, Factor, negated, numbered, named, one_bit, sliced, indexed, joined, shifted, nested}
+use Rattle.lola_parse.specs.Grammar.{plain, source, Expression, one_rel, chosen, Rel, one_sum, related, Sum, sum, term, Factor, negated, numbered, named, one_bit, sliced, indexed, joined, shifted, nested}
 use Rattle.lola_parse.specs.Design.{Outermost, Reads}
 use Rattle.lola_reread.specs.Again.{IsExpressionAgain}
-use Rattle.lola_reread.proofs.Words.{Word, Shows, shows_long, IsLexed, SpacedLaw, BlankLaw, lexed, words_text}
+use Rattle.lola_reread.proofs.Words.{Shows, shows_long, IsLexed, SpacedLaw, BlankLaw, lexed, words_text}
 use Rattle.lola_reread.proofs.GoodItems.{AllGood, items_good}
-use Rattle.lola_reread.proofs.Levels.{Again, lower_again, Done}
+use Rattle.lola_reread.proofs.Levels.{lower_again, Done}
 use Rattle.lola_reread.proofs.Expressions.{few_zero}
 use Rattle.lola_reread.proofs.ReadExpressions.{expression_done}
 
@@ -81,24 +80,34 @@ expression_again spaced blanks text tokens from e n spells reads = record {
   where
     all : List Item
     all = items_of Design text (drop from tokens)
+
     behind : List Item
     behind = items_of Design text (drop n tokens)
+
     good : AllGood all
     good = subst AllGood (drop-map (item_of Design text) from tokens) (all_drop from (items_of Design text tokens) (items_good text tokens spells))
+
     d : Done 0 e all behind
     d = expression_done all behind e reads.outermost.expr good
+
     lex : IsLexed [] d.printed.words
     lex = lexed spaced blanks [] d.printed.words d.printed.good
+
     again : (again : Tree) × (Outermost Design (items_of Design (words_text d.printed.words) lex.tokens) again [] × ((placeless again ≡ placeless e) × ((length (items_of Design (words_text d.printed.words) lex.tokens) ≡ d.count) × (0 < length (items_of Design (words_text d.printed.words) lex.tokens)))))
     again = outermost_again e (items_of Design (words_text d.printed.words) lex.tokens) all behind d reads.outermost.within lex.shown
+
     long : length (items_of Design (words_text d.printed.words) lex.tokens) ≡ length lex.tokens
     long = length-map lex.tokens (item_of Design (words_text d.printed.words))
+
     some : 0 < length lex.tokens
     some = let more = again.1.1.1.1 in omega (arith, long, more)
+
     all_long : length all ≡ length tokens - from
     all_long = length-map (drop from tokens) (item_of Design text) ∙ length-drop from tokens
+
     behind_long : length behind ≡ length tokens - n
     behind_long = length-map (drop n tokens) (item_of Design text) ∙ length-drop n tokens
+
     few : length lex.tokens ≤ n - from
     few =
         let below = few_zero d in
@@ -106,5 +115,6 @@ expression_again spaced blanks text tokens from e n spells reads = record {
         let after = reads.after in
         let within = reads.within in
         omega (arith, long, all_long, behind_long, below, count, after, within)
+
     none : items_of Design (expr_text e) (drop (length lex.tokens) lex.tokens) ≡ []
     none = ap (λ (ts : List Token). items_of Design (expr_text e) ts) (drop_all (length lex.tokens) lex.tokens (omega arith))

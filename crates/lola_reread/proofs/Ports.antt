@@ -1,5 +1,5 @@
 -- Ports and constants are printed so that they are read again.
-use Rattle.std.proofs.Common.{◌≡◌, ℕ, ◌+◌, ◌<◌, ◌≤◌, ◌^◌, List, [], ◌∷◌, ◌++◌, map, codes, Option, Some, None, refl, sym, ap, ap₂, subst, ◌∙◌, append_assoc}
+use Rattle.std.proofs.Common.{◌≡◌, ℕ, ◌<◌, ◌^◌, List, [], ◌∷◌, ◌++◌, map, codes, Some, refl, sym, ap, subst, ◌∙◌}
 use Rattle.std.specs.List.{AllByRecursion}
 use Rattle.lola_tree.specs.declared.named.Named.{Named}
 use Rattle.lola_tree.specs.declared.named.Shape.{Shape}
@@ -7,15 +7,15 @@ use Rattle.lola_tree.specs.declared.module.Way.{Way}
 use Rattle.lola_tree.specs.declared.module.Way.TheVariants.{Inward, Outward, Both}
 use Rattle.lola_tree.specs.declared.module.Port.{Port}
 use Rattle.lola_tree.specs.declared.module.Const.{Const}
-use Rattle.lola_tree.specs.Places.{placeless_shape, placeless_port, placeless_const}
-use Rattle.lola_tree.specs.Print.{name_text, shape_text, way_text, port_text, ports_text, const_text, consts_text, number_text}
+use Rattle.lola_tree.specs.Places.{placeless_port, placeless_const}
+use Rattle.lola_tree.specs.Print.{way_text, port_text, ports_text, const_text, consts_text}
 use Rattle.lola_parse.specs.declared.symbol.Symbol.{Symbol}
 use Rattle.lola_parse.specs.declared.symbol.Symbol.TheVariants as s
 use Rattle.lola_parse.specs.Symbols.{Item}
 use Rattle.lola_parse.specs.Grammar.{Stands, Passes, Names}
-use Rattle.lola_parse.specs.Design.{MoreNames, no_name, one_name, NameList, name_list, Shaped, way_of, port_of, Group, group, Directed, as_before, said, MoreGroups, no_group, one_group, Ports, no_port, some_ports, Constant, constant, MoreConstants, no_constant, one_constant}
+use Rattle.lola_parse.specs.Design.{MoreNames, no_name, one_name, NameList, name_list, way_of, port_of, Group, group, Directed, as_before, said, MoreGroups, no_group, one_group, Ports, no_port, some_ports, Constant, constant, MoreConstants, no_constant, one_constant}
 use Rattle.lola_reread.proofs.GoodItems.{AllGood}
-use Rattle.lola_reread.proofs.Prints.{Prints, Then, ◌and◌, read_as, retext, nothing, reserved, named, numbered as number_printed, IsName, IsWidth}
+use Rattle.lola_reread.proofs.Prints.{Prints, Then, ◌and◌, read_as, nothing, reserved, named, numbered as number_printed, IsName, IsWidth}
 use Rattle.lola_reread.proofs.Levels.{colon, assign, past_good}
 use Rattle.lola_reread.proofs.Expressions.{past_name, past_number}
 use Rattle.lola_reread.proofs.Lists.{all_append, all_map, grown, grown_none}
@@ -91,9 +91,19 @@ port_printed p good = record { count = _; printed = read_as {Q = PortAgain p} ag
   where
     again : (all rest : List Item) → Then (WayAgain p.way) (Then (NameAgain p.name) (Then (Passes s.Colon) (ShapeAgain p.shape))) all rest → PortAgain p all rest
     again all rest (m1, (way, (m2, ((at, name), (m3, ((c, co), (t, (shaped, same)))))))) =
-        let n : Named = record { name = p.name; at = at } in
-        (port_of p.way t n, (m1, (way, ((λ before. group {names = n ∷ []} m2 m3 (one_listed n m1 m2 name) co shaped refl),
-          ap (λ (x : Shape). let r : Port = record { way = p.way; name = p.name; shape = x; at = 0 } in r) same))))
+        let n : Named = record { name = p.name; at = at } in (
+          port_of p.way t n,
+          (
+            m1,
+            (
+              way,
+              (
+                (λ before. group {names = n ∷ []} m2 m3 (one_listed n m1 m2 name) co shaped refl),
+                ap (λ (x : Shape). let r : Port = record { way = p.way; name = p.name; shape = x; at = 0 } in r) same,
+              ),
+            ),
+          ),
+        )
 
 -- the ports behind some
 abbrev MorePortsAgain : List Port → List Item → List Item → Type 0

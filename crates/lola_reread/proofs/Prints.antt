@@ -1,17 +1,17 @@
 -- Texts that are printed so that a rule of the grammar reads them.
-use Rattle.std.proofs.Common.{◌≡◌, ℕ, ◌+◌, ◌<◌, ◌≤◌, ◌^◌, Bool, true, false, cond, List, [], ◌∷◌, ◌++◌, length, decimal, codes, nat_le, nat_lt, Option, Some, None, refl, sym, ap, ap₂, subst, ◌∙◌, arith, append_assoc, append-nil, length-append}
+use Rattle.std.proofs.Common.{◌≡◌, ℕ, ◌+◌, ◌<◌, ◌^◌, true, false, List, [], ◌∷◌, ◌++◌, length, decimal, nat_le, nat_lt, Option, Some, None, refl, sym, ap, ap₂, subst, ◌∙◌, arith, append_assoc, append-nil, length-append}
 use Rattle.std.proofs.lemmas.Bool.{and_parts, and_from}
 use Rattle.std.proofs.lemmas.Bool.Decides.{nat_tests}
 use Rattle.std.specs.Prelude.{position, not}
 use Rattle.std.specs.List.{prefix_len}
-use Rattle.std.specs.List.{AllByRecursion, list_all, list_any}
+use Rattle.std.specs.List.{AllByRecursion, list_all}
 use Rattle.lola_scan.specs.declared.token.TokenKind.TheVariants as kind
-use Rattle.lola_scan.specs.Bytes.{is_blank, is_letter, is_digit, is_word_byte, is_hex_digit, number_of}
-use Rattle.lola_scan.specs.Piece.{Word as WordPiece, Number as NumberPiece, Mark, is_mark, width_text, width_value, run_value, is_too_large, wrong_digit, fault_of}
+use Rattle.lola_scan.specs.Bytes.{is_blank, is_letter, is_digit, is_word_byte, is_hex_digit}
+use Rattle.lola_scan.specs.Piece.{Word as WordPiece, Number as NumberPiece, Mark, is_mark, width_text, run_value}
 use Rattle.lola_parse.specs.declared.symbol.Symbol.{Symbol}
 use Rattle.lola_parse.specs.declared.symbol.Symbol.TheVariants as s
 use Rattle.lola_parse.specs.declared.symbol.Language.TheVariants.{Design}
-use Rattle.lola_parse.specs.Symbols.{Item, symbol_of, word_symbol, mark_symbol}
+use Rattle.lola_parse.specs.Symbols.{Item, word_symbol, mark_symbol}
 use Rattle.lola_parse.specs.Grammar.{Stands, Passes, Names}
 use Rattle.lola_tree.specs.Print.{name_text, number_text}
 use Rattle.lola_reread.proofs.Words.{Word, words_text, words_append, IsGood, Shows, shows_append, item_at}
@@ -69,7 +69,16 @@ pub mark : (bytes : List ℕ) (behind : ℕ) (symbol : Symbol) → is_mark bytes
 mark bytes behind symbol is_mark blank reads =
     let w : Word = record { spelled = bytes; behind = behind; symbol = symbol; is_word = false } in
     let good : IsGood w = record {
-      piece = Mark bytes; is_piece = is_mark; unquoted = tt; text = refl; blank = blank; sound = λ at. refl; kind = kind.Mark; token = λ at. refl; symbol = reads; word = refl;
+      piece = Mark bytes;
+      is_piece = is_mark;
+      unquoted = tt;
+      text = refl;
+      blank = blank;
+      sound = λ at. refl;
+      kind = kind.Mark;
+      token = λ at. refl;
+      symbol = reads;
+      word = refl;
     } in
     read_as (λ all rest h. (h.0, record { is_word = false; spelled = bytes; splits = h.1 })) (one_word w good)
 
@@ -175,8 +184,13 @@ number_good value (Some width) d less wide =
       text = refl;
       blank = refl;
       sound = λ at.
-          rw (run_is d, not_large value less, w.value, not_large width wide,
-            none_wrong (d.first ∷ d.more) (and_from (is_digit d.first) (list_all is_digit d.more) d.digit d.digits)) refl;
+          rw (
+            run_is d,
+            not_large value less,
+            w.value,
+            not_large width wide,
+            none_wrong (d.first ∷ d.more) (and_from (is_digit d.first) (list_all is_digit d.more) d.digit d.digits),
+          ) refl;
       kind = kind.Number value (Some width);
       token = λ at. rw (run_is d, w.value) refl;
       symbol = refl;
@@ -190,10 +204,13 @@ numbered value width less wide = retext (number_spelled width) refl (read_as (λ
   where
     d : Digits value
     d = digits_of value less
+
     w : Word
     w = record { spelled = (d.first ∷ d.more) ++ width_text (width_digits width); behind = 32; symbol = s.Number value width; is_word = false }
+
     number_spelled : (width : Option ℕ) → ((d.first ∷ d.more) ++ width_text (width_digits width)) ++ 32 ∷ [] ≡ number_text value width
     number_spelled None = rw d.is (ap (λ (cs : List ℕ). cs ++ 32 ∷ []) (append-nil (d.first ∷ d.more)))
     number_spelled (Some n) = rw (d.is, append_assoc) refl
+
     stands : (all rest : List Item) (at : ℕ) → all ≡ item_at w at ∷ rest → Stands (s.Number value width) at all rest
     stands all rest at e = record { is_word = false; spelled = w.spelled; splits = e }

@@ -1,21 +1,20 @@
 -- By the grammar, rule by rule: an expression that is read is printed so that it is read again.
-use Rattle.std.proofs.Common.{◌≡◌, ℕ, ◌+◌, ◌<◌, ◌≤◌, ◌^◌, List, [], ◌∷◌, ◌++◌, length, codes, Option, Some, None, refl, sym, ap, ap₂, subst, ◌∙◌, arith, append_assoc}
+use Rattle.std.proofs.Common.{◌≡◌, ℕ, ◌+◌, ◌≤◌, List, ◌++◌, length, codes, Some, refl, sym, ap, ap₂, subst, ◌∙◌, arith, append_assoc}
 use Rattle.lola_bits.specs.declared.op.Op.{Op}
 use Rattle.lola_bits.specs.declared.op.Op.TheVariants as op
 use Rattle.lola_tree.specs.declared.named.Count.{Count}
-use Rattle.lola_tree.specs.declared.named.Ref.{Ref}
 use Rattle.lola_tree.specs.Tree.{Tree, number, whole, bit, slice, index, concat, negation, binary, choice, Parts, no_part, one_part}
-use Rattle.lola_tree.specs.Places.{placeless_count, placeless_ref, placeless, placeless_parts}
-use Rattle.lola_tree.specs.Print.{ref_text, times_text, expr_text, parts_text, tightness}
+use Rattle.lola_tree.specs.Places.{placeless_count, placeless, placeless_parts}
+use Rattle.lola_tree.specs.Print.{times_text, expr_text, parts_text, tightness}
 use Rattle.lola_parse.specs.declared.symbol.Symbol.{Symbol}
 use Rattle.lola_parse.specs.declared.symbol.Symbol.TheVariants as s
 use Rattle.lola_parse.specs.declared.symbol.Language.TheVariants.{Design}
 use Rattle.lola_parse.specs.Symbols.{Item}
-use Rattle.lola_parse.specs.Grammar.{Stands, Passes, Times, place_of, Expression, one_rel, chosen, Rel, one_sum, related, Sum, sum, Terms, no_term, one_term, Term, term, Factors, no_factor, one_factor, Factor, negated, numbered, named, one_bit, sliced, indexed, joined, shifted, nested, OnePart, part, MoreParts, no_more, one_more, with_part, relation_of, adding_of, shift_of}
+use Rattle.lola_parse.specs.Grammar.{Stands, Passes, place_of, Expression, one_rel, chosen, Rel, one_sum, related, Sum, sum, Terms, no_term, one_term, Term, term, Factors, no_factor, one_factor, Factor, negated, numbered, named, one_bit, sliced, indexed, joined, shifted, nested, OnePart, part, MoreParts, no_more, one_more, with_part, adding_of}
 use Rattle.lola_reread.proofs.GoodItems.{AllGood}
 use Rattle.lola_reread.proofs.Prints.{Prints, Then, ◌and◌, read_as, retext, nothing, numbered as number_printed}
-use Rattle.lola_reread.proofs.Levels.{At, Again, lower_again, closed_count, count_zero, count_held, count_most, count_more, open_brace, close_brace, comma, Printed, Done, weaken, past_good, past_long, relation_is, adding_is, and_is, shift_is, joined as joined_printed}
-use Rattle.lola_reread.proofs.Expressions.{past_number, CountDone, counted_done, RefAgain, RefDone, ref_done, TimesAgain, TimesDone, times_done, made, at_zero, few_zero, choice_printed, negation_printed, bit_printed, slice_printed, index_printed, shift_printed}
+use Rattle.lola_reread.proofs.Levels.{Again, closed_count, count_held, count_most, count_more, open_brace, close_brace, comma, Printed, Done, weaken, past_good, past_long, relation_is, adding_is, and_is, shift_is, joined as joined_printed}
+use Rattle.lola_reread.proofs.Expressions.{past_number, counted_done, ref_done, TimesAgain, times_done, made, at_zero, few_zero, choice_printed, negation_printed, bit_printed, slice_printed, index_printed, shift_printed}
 
 -- the parts of one list and then those of another
 abbrev append_parts : Parts → Parts → Parts
@@ -91,10 +90,14 @@ term_append all mid first rest a b p (term behind t more) stands u = term behind
 
 more_again : (e : Tree) (times : Count) (added : Parts) (all rest : List Item) → Then (Passes s.Comma) (Then (PartAgain e times) (MoreAgain added)) all rest → MoreAgain (one_part e times added) all rest
 more_again e times added all rest (m1, ((p, co), (m2, ((e', (t', (pt, (se, st)))), more)))) = λ before.
-    let go = more (with_part before e' t') in
-    (go.0, (one_more m1 m2 co pt go.1.0,
-      go.1.1 ∙ (ap placeless_parts (with_behind before e' t' added) ∙ (placeless_append before (one_part e' t' added)
-      ∙ (ap (λ ps. append_parts (placeless_parts before) ps) (ap₂ (λ x y. one_part x y (placeless_parts added)) se st) ∙ sym (placeless_append before (one_part e times added)))))))
+    let go = more (with_part before e' t') in (
+      go.0,
+      (
+        one_more m1 m2 co pt go.1.0,
+        go.1.1 ∙ (ap placeless_parts (with_behind before e' t' added) ∙ (placeless_append before (one_part e' t' added)
+            ∙ (ap (λ ps. append_parts (placeless_parts before) ps) (ap₂ (λ x y. one_part x y (placeless_parts added)) se st) ∙ sym (placeless_append before (one_part e times added))))),
+      ),
+    )
 
 concat_again : (e : Tree) (times : Count) (added : Parts) (at : ℕ) (all rest : List Item) →
     Then (Passes s.OpenBrace) (Then (PartAgain e times) (Then (MoreAgain added) (Passes s.CloseBrace))) all rest → Again 4 (concat (one_part e times added) at) all rest
@@ -114,8 +117,8 @@ parts_text_is : (e : Tree) (times : Count) (added : Parts) →
     codes "{ " ++ ((expr_text e ++ times_text times) ++ (parts_text (codes ", ") added ++ codes "} ")) ≡ parts_text (codes "{ ") (one_part e times added) ++ codes "} "
 parts_text_is e times added =
     ap (λ xs. codes "{ " ++ xs) (append_assoc (expr_text e) (times_text times) (parts_text (codes ", ") added ++ codes "} ")
-      ∙ ap (λ xs. expr_text e ++ xs) (sym (append_assoc (times_text times) (parts_text (codes ", ") added) (codes "} ")))
-      ∙ sym (append_assoc (expr_text e) (times_text times ++ parts_text (codes ", ") added) (codes "} ")))
+    ∙ ap (λ xs. expr_text e ++ xs) (sym (append_assoc (times_text times) (parts_text (codes ", ") added) (codes "} ")))
+    ∙ sym (append_assoc (expr_text e) (times_text times ++ parts_text (codes ", ") added) (codes "} ")))
 
 mutual
   pub expression_done : (all rest : List Item) (e : Tree) → Expression Design all e rest → AllGood all → Done 0 e all rest
@@ -142,7 +145,7 @@ mutual
       let two = db.few in
       let long = past_long stands in
       let printed = joined_printed a b da.count db.count p o 1 2 2 symbol inf (omega arith) (omega arith) da.printed db.printed
-        (λ all sign behind rest a' b' q l st r. related sign behind l st reads r refl) in
+      (λ all sign behind rest a' b' q l st r. related sign behind l st reads r refl) in
       subst (λ x. Done 1 x all rest) (sym is) (made 1 (binary o a b p) _ all rest (rw inf.tight (omega arith)) printed (omega arith) db.good)
 
   sum_done : (all rest : List Item) (e : Tree) → Sum Design all e rest → AllGood all → Done 2 e all rest
@@ -168,7 +171,7 @@ mutual
       let inf = adding_is symbol o reads in
       let count : ℕ = closed_count 2 (tightness a) n + (1 + closed_count 3 (tightness b) db.count) in
       let together = joined_printed a b n db.count p o 2 2 3 symbol inf (omega arith) (omega arith) printed db.printed
-        (λ all sign behind rest a' b' q l st r. sum_append all sign behind rest a' b' symbol o q l st reads r) in
+      (λ all sign behind rest a' b' q l st r. sum_append all sign behind rest a' b' symbol o q l st reads r) in
       let dc = terms_done behind rest (binary o a b p) e more count together db.good in
       let one = db.few in
       let two = dc.few in
@@ -199,7 +202,7 @@ mutual
       let db = factor_done first behind b t (past_good stands good) in
       let count : ℕ = closed_count 3 (tightness a) n + (1 + closed_count 4 (tightness b) db.count) in
       let together = joined_printed a b n db.count p op.And 3 3 4 s.And and_is (omega arith) (omega arith) printed db.printed
-        (λ all sign behind rest a' b' q l st r. term_append all sign behind rest a' b' q l st r) in
+      (λ all sign behind rest a' b' q l st r. term_append all sign behind rest a' b' q l st r) in
       let dc = factors_done behind rest (binary op.And a b p) e more count together db.good in
       let one = db.few in
       let two = dc.few in
@@ -218,14 +221,14 @@ mutual
       let long = past_long stands in
       subst (λ x. Done 4 x all rest) (sym is)
       (made 4 (number value width p) 1 all rest (omega arith)
-        (read_as {Q = Again 4 (number value width p)} (λ xs ys h. (number value width h.0, (numbered h.1 refl, refl))) (number_printed value width bounds.0 bounds.1))
-        (omega arith) (past_good stands good))
+      (read_as {Q = Again 4 (number value width p)} (λ xs ys h. (number value width h.0, (numbered h.1 refl, refl))) (number_printed value width bounds.0 bounds.1))
+      (omega arith) (past_good stands good))
   factor_done all rest e (named {of = r} ref is) good =
       let dr = ref_done r all rest ref good in
       let long = dr.few in
       subst (λ x. Done 4 x all rest) (sym is)
       (made 4 (whole r) 1 all rest (omega arith)
-        (read_as {Q = Again 4 (whole r)} (λ xs ys h. (whole h.0, (named h.1.0 refl, ap whole h.1.1))) dr.printed) (omega arith) dr.good)
+      (read_as {Q = Again 4 (whole r)} (λ xs ys h. (whole h.0, (named h.1.0 refl, ap whole h.1.1))) dr.printed) (omega arith) dr.good)
   factor_done all rest e (one_bit {of = r} {place = c} {at = p} point behind ref stands cnt is) good =
       let dr = ref_done r all point ref good in
       let dc = counted_done c behind rest cnt (past_good stands dr.good) in
@@ -262,7 +265,7 @@ mutual
       let four = dm.few in
       let five = past_long closes in
       let printed = retext (parts_text_is a times dm.added) refl
-        (read_as {Q = Again 4 (concat (one_part a times dm.added) p)} (concat_again a times dm.added p) (open_brace and (dp.printed and (dm.printed and close_brace)))) in
+      (read_as {Q = Again 4 (concat (one_part a times dm.added) p)} (concat_again a times dm.added p) (open_brace and (dp.printed and (dm.printed and close_brace)))) in
       subst (λ x. Done 4 x all rest) (sym (is ∙ ap (λ ps. concat ps p) dm.is))
       (made 4 (concat (one_part a times dm.added) p) _ all rest (omega arith) printed (omega arith) (past_good closes dm.good))
   factor_done all rest e (shifted {a = a} {b = b} {symbol = symbol} {o = o} {at = p} paren first mid second close stands reads opens left co right closes is) good =
@@ -320,7 +323,7 @@ mutual
         is = dm.is ∙ with_behind before e times dm.added;
         count = 1 + (dp.count + dm.count);
         printed = retext (parts_assoc (codes ", ") (expr_text e) (times_text times) (parts_text (codes ", ") dm.added)) refl
-          (read_as {Q = MoreAgain (one_part e times dm.added)} (more_again e times dm.added) (comma and (dp.printed and dm.printed)));
+            (read_as {Q = MoreAgain (one_part e times dm.added)} (more_again e times dm.added) (comma and (dp.printed and dm.printed)));
         few = omega arith;
         good = dm.good;
       }

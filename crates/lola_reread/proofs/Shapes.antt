@@ -1,23 +1,22 @@
 -- Types are printed so that they are read again.
-use Rattle.std.proofs.Common.{◌≡◌, ℕ, ◌+◌, ◌<◌, ◌≤◌, ◌^◌, Bool, true, false, cond, List, [], ◌∷◌, ◌++◌, length, nat_eq, codes, Some, None, refl, sym, ap, ap₂, subst, ◌∙◌, inl, inr, arith}
+use Rattle.std.proofs.Common.{◌≡◌, ℕ, ◌<◌, ◌^◌, true, List, ◌++◌, nat_eq, codes, Some, None, refl, sym, ap, ap₂, subst, inl, inr, arith}
 use Rattle.std.proofs.lemmas.Bool.{cases_Bool}
 use Rattle.std.proofs.lemmas.Bool.Decides.{nat_tests}
 use Rattle.lola_tree.specs.declared.named.Count.{Count}
 use Rattle.lola_tree.specs.declared.named.Count.TheVariants as count
 use Rattle.lola_tree.specs.declared.named.Shape.{Shape}
 use Rattle.lola_tree.specs.declared.named.Shape.TheVariants as shape
-use Rattle.lola_tree.specs.Places.{placeless_count, placeless_shape}
-use Rattle.lola_tree.specs.Print.{count_text, bracket_text, width_word, array_word, vector_text, shape_text}
+use Rattle.lola_tree.specs.Places.{placeless_shape}
+use Rattle.lola_tree.specs.Print.{count_text, bracket_text, shape_text}
 use Rattle.lola_parse.specs.declared.symbol.Symbol.{Symbol}
 use Rattle.lola_parse.specs.declared.symbol.Symbol.TheVariants as s
-use Rattle.lola_parse.specs.declared.symbol.Language.TheVariants.{Design}
 use Rattle.lola_parse.specs.Symbols.{Item}
-use Rattle.lola_parse.specs.Grammar.{Stands, Passes, Counted, fixed}
+use Rattle.lola_parse.specs.Grammar.{Passes, fixed}
 use Rattle.lola_parse.specs.Design.{width_of, Shaped, vector, bits, bytes, words, vectors}
 use Rattle.lola_reread.proofs.GoodItems.{AllGood}
 use Rattle.lola_reread.proofs.Prints.{Prints, Then, ◌and◌, read_as, retext, reserved, numbered as number_printed}
 use Rattle.lola_reread.proofs.Levels.{open_bracket, close_bracket, past_good}
-use Rattle.lola_reread.proofs.Expressions.{CountAgain, CountDone, counted_done}
+use Rattle.lola_reread.proofs.Expressions.{CountAgain, counted_done}
 
 -- the type is read, up to places
 abbrev pub ShapeAgain : Shape → List Item → List Item → Type 0

@@ -1,19 +1,19 @@
 -- Statements are printed so that they are read again.
-use Rattle.std.proofs.Common.{◌≡◌, ℕ, ◌+◌, ◌<◌, ◌≤◌, List, [], ◌∷◌, ◌++◌, length, map, codes, Option, Some, None, refl, sym, ap, ap₂, subst, ◌∙◌, arith, append-nil, append_assoc}
+use Rattle.std.proofs.Common.{◌≡◌, ℕ, List, [], ◌∷◌, ◌++◌, map, codes, Some, None, refl, sym, ap, ap₂, subst, ◌∙◌, arith, append-nil, append_assoc}
 use Rattle.std.specs.List.{AllByRecursion}
 use Rattle.lola_tree.specs.declared.named.Named.{Named}
 use Rattle.lola_tree.specs.Tree.{Tree, ActualTree, StmtTree, assignment, call, pad}
-use Rattle.lola_tree.specs.Places.{placeless, placeless_name, placeless_actual, placeless_place, placeless_stmt}
-use Rattle.lola_tree.specs.Print.{name_text, expr_text, tightness, args_text, place_text, pad_text, stmt_text, body_text}
+use Rattle.lola_tree.specs.Places.{placeless, placeless_name, placeless_actual, placeless_stmt}
+use Rattle.lola_tree.specs.Print.{name_text, expr_text, tightness, args_text, stmt_text, body_text}
 use Rattle.lola_parse.specs.declared.symbol.Symbol.TheVariants as s
 use Rattle.lola_parse.specs.declared.symbol.Language.TheVariants.{Design}
 use Rattle.lola_parse.specs.Symbols.{Item}
-use Rattle.lola_parse.specs.Grammar.{Stands, Passes, Names, place_of}
-use Rattle.lola_parse.specs.Design.{Outermost, Argument, argument, MoreArguments, no_argument, one_argument, Statement, assigned, placed, called, driven, Optional, empty, one_statement, MoreStatements, no_statement, next_statement, Body, statements, Begun, no_body, begun}
-use Rattle.lola_reread.proofs.Words.{Shows, shows_long}
+use Rattle.lola_parse.specs.Grammar.{Passes, Names, place_of}
+use Rattle.lola_parse.specs.Design.{Outermost, Argument, argument, MoreArguments, no_argument, one_argument, Statement, assigned, placed, called, driven, Optional, empty, one_statement, MoreStatements, no_statement, next_statement, statements, Begun, no_body, begun}
+use Rattle.lola_reread.proofs.Words.{shows_long}
 use Rattle.lola_reread.proofs.GoodItems.{AllGood}
 use Rattle.lola_reread.proofs.Prints.{Prints, Then, ◌and◌, read_as, retext, nothing, mark, reserved, named, IsName}
-use Rattle.lola_reread.proofs.Levels.{Again, lower_again, open_paren, close_paren, open_bracket, close_bracket, comma, assign, Done, past_good}
+use Rattle.lola_reread.proofs.Levels.{lower_again, open_paren, close_paren, open_bracket, close_bracket, comma, assign, Done, past_good}
 use Rattle.lola_reread.proofs.Expressions.{past_name, few_zero}
 use Rattle.lola_reread.proofs.ReadExpressions.{expression_done}
 use Rattle.lola_reread.proofs.Lists.{all_append, grown, grown_none}
@@ -31,6 +31,7 @@ out_done e all rest out good = (record { count = d.count; printed = printed }, d
   where
     d : Done 0 e all rest
     d = expression_done all rest e out.expr good
+
     printed : Prints (expr_text e) d.count (OutAgain e)
     printed = record {
       words = d.printed.words;
@@ -56,12 +57,14 @@ record ArgPrinted (a : ActualTree) : Type 0 where
 
 arg_done : (a : ActualTree) (all rest : List Item) → Argument all a rest → AllGood all → ArgPrinted a × AllGood rest
 arg_done a all rest (argument e out is) good =
-    let d = out_done e all rest out good in
-    (subst ArgPrinted (sym is) (record {
-      count = d.0.count;
-      printed = read_as {Q = ArgAgain (record { value = e; at = place_of all })}
-          (λ xs ys h. (record { value = h.0; at = place_of xs }, (argument h.0 h.1.0 refl, ap (λ (x : Tree). let r : ActualTree = record { value = x; at = 0 } in r) h.1.1))) d.0.printed;
-    }), d.1)
+    let d = out_done e all rest out good in (
+      subst ArgPrinted (sym is) (record {
+        count = d.0.count;
+        printed = read_as {Q = ArgAgain (record { value = e; at = place_of all })}
+            (λ xs ys h. (record { value = h.0; at = place_of xs }, (argument h.0 h.1.0 refl, ap (λ (x : Tree). let r : ActualTree = record { value = x; at = 0 } in r) h.1.1))) d.0.printed;
+      }),
+      d.1,
+    )
 
 -- the arguments that were added
 record ArgsDone (before args : List ActualTree) (rest : List Item) : Type 0 where
@@ -128,13 +131,16 @@ placed_printed name place e place_at at equals good p q = record {
   where
     whole : StmtTree
     whole = assignment name (Some (record { value = place; at = place_at })) e at equals
+
     text : name_text name ++ (codes "[ " ++ (expr_text place ++ (codes "] " ++ (codes ":= " ++ expr_text e)))) ≡ stmt_text whole
     text = ap (λ xs. name_text name ++ (codes "[ " ++ xs)) (sym (append_assoc (expr_text place) (codes "] ") (codes ":= " ++ expr_text e)))
+
     again : (all rest : List Item) → Then (NameAgain name) (Then (Passes s.OpenBracket) (Then (OutAgain place) (Then (Passes s.CloseBracket) (Then (Passes s.Assign) (OutAgain e))))) all rest →
         StmtAgain whole all rest
-    again all rest (m1, ((p, n), (m2, ((q, ob), (m3, ((e1, (o1, s1)), (m4, ((r, cb), (m5, ((t, a), (e2, (o2, s2)))))))))))) =
-        (assignment name (Some (record { value = e1; at = q })) e2 p t,
-         (placed m1 m2 m3 m4 m5 n ob o1 cb a o2 refl, ap₂ (λ (x y : Tree). let r : ActualTree = record { value = x; at = 0 } in assignment name (Some r) y 0 0) s1 s2))
+    again all rest (m1, ((p, n), (m2, ((q, ob), (m3, ((e1, (o1, s1)), (m4, ((r, cb), (m5, ((t, a), (e2, (o2, s2)))))))))))) = (
+      assignment name (Some (record { value = e1; at = q })) e2 p t,
+      (placed m1 m2 m3 m4 m5 n ob o1 cb a o2 refl, ap₂ (λ (x y : Tree). let r : ActualTree = record { value = x; at = 0 } in assignment name (Some r) y 0 0) s1 s2),
+    )
 
 called_printed : (name : List ℕ) (a : ActualTree) (added : List ActualTree) (at : ℕ) → IsName name → ArgPrinted a → MoreArgsPrinted added → StmtPrinted (call name (a ∷ added) at)
 called_printed name a added at good p q = record {
@@ -144,6 +150,7 @@ called_printed name a added at good p q = record {
   where
     text : name_text name ++ (codes "( " ++ (expr_text a.value ++ (args_text (codes ", ") added ++ codes ") "))) ≡ stmt_text (call name (a ∷ added) at)
     text = ap (λ xs. name_text name ++ (codes "( " ++ xs)) (sym (append_assoc (expr_text a.value) (args_text (codes ", ") added) (codes ") ")))
+
     again : (all rest : List Item) → Then (NameAgain name) (Then (Passes s.OpenParen) (Then (ArgAgain a) (Then (MoreArgsAgain added) (Passes s.CloseParen)))) all rest →
         StmtAgain (call name (a ∷ added) at) all rest
     again all rest (m1, ((p, n), (m2, ((q, op), (m3, ((a', (arg, same)), (m4, (more, (r, cp))))))))) =
@@ -154,17 +161,18 @@ pad_printed : (io inner : Named) (value release : ActualTree) (at : ℕ) → IsN
 pad_printed io inner value release at good good' p q = record {
   count = _;
   printed = read_as {Q = StmtAgain (pad io inner value release at)} again
-    (reserved 84 (codes "S") 32 s.Ts refl refl refl refl
-    and (open_paren and (named io.name good and (comma and (named inner.name good' and (comma and (p.printed and (comma and (q.printed and close_paren)))))))));
+      (reserved 84 (codes "S") 32 s.Ts refl refl refl refl
+      and (open_paren and (named io.name good and (comma and (named inner.name good' and (comma and (p.printed and (comma and (q.printed and close_paren)))))))));
 }
   where
     again : (all rest : List Item) →
         Then (Passes s.Ts) (Then (Passes s.OpenParen) (Then (NameAgain io.name) (Then (Passes s.Comma) (Then (NameAgain inner.name) (Then (Passes s.Comma) (Then (ArgAgain value)
-          (Then (Passes s.Comma) (Then (ArgAgain release) (Passes s.CloseParen))))))))) all rest →
+        (Then (Passes s.Comma) (Then (ArgAgain release) (Passes s.CloseParen))))))))) all rest →
         StmtAgain (pad io inner value release at) all rest
-    again all rest (m1, ((pt, ts), (m2, ((po, op), (m3, ((pi, ni), (m4, ((c1, k1), (m5, ((pn, nn), (m6, ((c2, k2), (m7, ((v, (av, sv)), (m8, ((c3, k3), (m9, ((r, (ar, sr)), (pc, cp))))))))))))))))))) =
-        (pad (record { name = io.name; at = pi }) (record { name = inner.name; at = pn }) v r pt,
-         (driven m1 m2 m3 m4 m5 m6 m7 m8 m9 ts op ni k1 nn k2 av k3 ar cp refl, ap₂ (λ (x y : ActualTree). pad (placeless_name io) (placeless_name inner) x y 0) sv sr))
+    again all rest (m1, ((pt, ts), (m2, ((po, op), (m3, ((pi, ni), (m4, ((c1, k1), (m5, ((pn, nn), (m6, ((c2, k2), (m7, ((v, (av, sv)), (m8, ((c3, k3), (m9, ((r, (ar, sr)), (pc, cp))))))))))))))))))) = (
+      pad (record { name = io.name; at = pi }) (record { name = inner.name; at = pn }) v r pt,
+      (driven m1 m2 m3 m4 m5 m6 m7 m8 m9 ts op ni k1 nn k2 av k3 ar cp refl, ap₂ (λ (x y : ActualTree). pad (placeless_name io) (placeless_name inner) x y 0) sv sr),
+    )
 
 pub statement_done : (t : StmtTree) (all rest : List Item) → Statement all t rest → AllGood all → StmtPrinted t × AllGood rest
 statement_done t all rest (assigned {name = name} {e = e} {at = at} {equals = equals} sign behind n a out is) good =

@@ -1,5 +1,5 @@
 -- A text of words, each with a blank behind it, is read as these words.
-use Rattle.std.proofs.Common.{◌≡◌, ℕ, suc, ◌+◌, ◌-◌, Bool, true, List, [], ◌∷◌, ◌++◌, length, map, take, drop, None, refl, sym, ap, ap₂, subst, ◌∙◌, arith, append_assoc, length-append}
+use Rattle.std.proofs.Common.{◌≡◌, ℕ, ◌+◌, ◌-◌, Bool, true, List, [], ◌∷◌, ◌++◌, length, None, refl, sym, ap, subst, ◌∙◌, arith, append_assoc, length-append}
 use Rattle.std.proofs.Math.Seq.{drop-append_seam, take-append_seam}
 use Rattle.std.specs.Prelude.{slice_range}
 use Rattle.std.specs.List.{AllByRecursion}
@@ -112,8 +112,10 @@ module _ (spaced : SpacedLaw) (blanks : BlankLaw) where
           length before,
           (
             items_of Design (before ++ (w.spelled ++ w.behind ∷ text)) more.tokens,
-            (ap (λ i. i ∷ items_of Design (before ++ (w.spelled ++ w.behind ∷ text)) more.tokens) (item_is w before (w.behind ∷ text) one),
-             subst (λ xs. Shows ws (items_of Design xs more.tokens) []) (sym whole) more.shown)
-          )
+            (
+              ap (λ i. i ∷ items_of Design (before ++ (w.spelled ++ w.behind ∷ text)) more.tokens) (item_is w before (w.behind ∷ text) one),
+              subst (λ xs. Shows ws (items_of Design xs more.tokens) []) (sym whole) more.shown,
+            ),
+          ),
         );
       }

@@ -1,12 +1,12 @@
 -- Tokens that have a blank behind them.
-use Rattle.std.proofs.Common.{◌≡◌, ℕ, suc, ◌≤◌, Bool, true, false, not, List, [], ◌∷◌, ◌++◌, length, None, Some, Option, refl, sym, ap, subst, ◌∙◌, arith}
+use Rattle.std.proofs.Common.{◌≡◌, ℕ, ◌≤◌, Bool, true, false, not, List, [], ◌∷◌, ◌++◌, length, None, Some, Option, refl, sym, subst, ◌∙◌, arith}
 use Rattle.std.proofs.lemmas.Bool.{and_parts, and_from}
 use Rattle.std.proofs.lemmas.Bool.Decides.{nat_tests}
 use Rattle.std.specs.List.{list_all}
 use Rattle.std.specs.Prelude.{nat_eq, cond}
 use Rattle.lola_scan.specs.Bytes.{is_blank, is_digit, is_word_byte, is_hex_digit}
-use Rattle.lola_scan.specs.Piece.{Piece, Blank, Comment, Word, Number, Pattern, Mark, IsPiece, IsWidth, IsUnquoted, IsFront, IsComment, text_of, base_text, width_text, marks, is_mark, Opens}
-use Rattle.lola_scan.proofs.FirstByte.{letter, digit, other, kind_of, kind, of_mark, first_kind, opens_kind, piece_not_empty, kind_of_letter, kind_of_digit}
+use Rattle.lola_scan.specs.Piece.{Piece, Blank, Comment, Word, Number, Pattern, Mark, IsPiece, IsWidth, IsUnquoted, IsFront, IsComment, text_of, base_text, width_text, marks, Opens}
+use Rattle.lola_scan.proofs.FirstByte.{letter, digit, other, kind_of, kind, of_mark, first_kind, opens_kind, kind_of_letter, kind_of_digit}
 
 abbrev is_solid : ℕ → Bool
 is_solid b = not (is_blank b)

@@ -1,5 +1,6 @@
-//! Texts of designs with what scanner and parser make of each, worked out by hand from the grammar. A
-//! text that is refused is written in two parts, and the fault stands where the second begins.
+//! Texts of designs with what scanner and parser make of each, worked out by hand from the grammar, and
+//! with what designs are printed as. A text that is refused is written in two parts, and the fault
+//! stands where the second begins.
 #![tactic(auto)]
 
 #[cfg(test)]
@@ -8,6 +9,8 @@ mod answer;
 mod limits;
 #[cfg(test)]
 mod pieces;
+#[cfg(test)]
+mod printed;
 #[cfg(test)]
 mod spelled;
 #[cfg(test)]

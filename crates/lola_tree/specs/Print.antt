@@ -1,9 +1,8 @@
 -- The text that a tree is printed as: its tokens in the order of the grammar, each with a blank behind
 -- it, but that a line feed stands behind `;`, behind BEGIN and behind the `.` that ends a module.
-use Rattle.std.specs.Prelude.{ℕ, Bool, true, false, cond, not, List, [], ◌∷◌, ◌++◌, Option, Some, None, nat_eq, nat_lt, bytes_eq, decimal, codes}
+use Rattle.std.specs.Prelude.{ℕ, Bool, true, false, cond, List, [], ◌∷◌, ◌++◌, Option, Some, None, nat_eq, nat_lt, bytes_eq, decimal, codes}
 use Rattle.lola_bits.specs.declared.op.Op.{Op}
 use Rattle.lola_bits.specs.declared.op.Op.TheVariants as op
-use Rattle.lola_tree.specs.declared.named.Named.{Named}
 use Rattle.lola_tree.specs.declared.named.Count.{Count}
 use Rattle.lola_tree.specs.declared.named.Count.TheVariants.{Fixed, Const}
 use Rattle.lola_tree.specs.declared.named.Ref.{Ref}

@@ -1,4 +1,4 @@
-use Rattle.std.proofs.Common.{◌≡◌, ◌++◌, drop, map, codes, []}
+use Rattle.std.proofs.Common.{◌≡◌, ◌++◌, drop}
 use Rattle.lola_tree.specs.Tree.{parts_tree}
 use Rattle.lola_tree.specs.Print.{parts_text}
 use Rattle.lola_tree.proofs.expr_text.+print.Given as goal

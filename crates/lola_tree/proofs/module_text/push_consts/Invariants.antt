@@ -1,4 +1,4 @@
-use Rattle.std.proofs.Common.{◌≡◌, ◌++◌, drop, map, codes, []}
+use Rattle.std.proofs.Common.{◌≡◌, ◌++◌, drop, codes}
 use Rattle.lola_tree.specs.Print.{consts_text}
 use Rattle.lola_tree.proofs.module_text.push_consts.Given as goal
 

@@ -1,4 +1,4 @@
-use Rattle.std.proofs.Common.{◌≡◌, ◌++◌, drop, map, codes, []}
+use Rattle.std.proofs.Common.{◌≡◌, ◌++◌, drop, []}
 use Rattle.lola_tree.specs.Print.{ports_text}
 use Rattle.lola_tree.proofs.module_text.push_ports.Given as goal
 

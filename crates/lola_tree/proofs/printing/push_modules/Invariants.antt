@@ -1,4 +1,4 @@
-use Rattle.std.proofs.Common.{◌≡◌, ◌++◌, drop, map, codes, []}
+use Rattle.std.proofs.Common.{◌≡◌, ◌++◌, drop, map}
 use Rattle.lola_tree.specs.Tree.{module_tree}
 use Rattle.lola_tree.specs.Print.{modules_text}
 use Rattle.lola_tree.proofs.printing.push_modules.Given as goal

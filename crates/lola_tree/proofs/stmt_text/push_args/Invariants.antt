@@ -1,4 +1,4 @@
-use Rattle.std.proofs.Common.{◌≡◌, ◌++◌, drop, map, codes, []}
+use Rattle.std.proofs.Common.{◌≡◌, ◌++◌, drop, map, codes}
 use Rattle.lola_tree.specs.Tree.{actual_tree}
 use Rattle.lola_tree.specs.Print.{args_text}
 use Rattle.lola_tree.proofs.stmt_text.push_args.Given as goal

@@ -1,4 +1,4 @@
-use Rattle.std.proofs.Common.{◌≡◌, ◌++◌, drop, map, codes, []}
+use Rattle.std.proofs.Common.{◌≡◌, ◌++◌, drop, map, codes}
 use Rattle.lola_tree.specs.Tree.{stmt_tree}
 use Rattle.lola_tree.specs.Print.{body_text}
 use Rattle.lola_tree.proofs.stmt_text.push_body.Given as goal

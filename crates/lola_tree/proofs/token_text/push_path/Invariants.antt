@@ -1,4 +1,4 @@
-use Rattle.std.proofs.Common.{◌≡◌, ◌++◌, drop, map, codes, []}
+use Rattle.std.proofs.Common.{◌≡◌, ◌++◌, drop}
 use Rattle.lola_tree.specs.Print.{path_text}
 use Rattle.lola_tree.proofs.token_text.push_path.Given as goal
 
