@@ -76,6 +76,16 @@ fn the_toggler(rt: HostRuntime) {
 }
 
 #[test]
+fn the_first_design_of_the_language_page(rt: HostRuntime) {
+    prints(
+        &rt,
+        rt.alloc(),
+        b"MODULE Toggler(IN clk, rst, t: BIT; OUT o: BIT);\nREG (clk) q: BIT;\nBEGIN\n  q := ~rst & (q ^ t);\n  o := q\nEND Toggler.\n",
+        b"MODULE Toggler ( IN clk : BIT ;\nIN rst : BIT ;\nIN t : BIT ;\nOUT o : BIT ) ;\nREG ( clk ) q : BIT ;\nBEGIN\nq := ~ rst & ( q ^ t ) ;\no := q END Toggler .\n",
+    );
+}
+
+#[test]
 fn parentheses_stand_where_the_grammar_needs_them(rt: HostRuntime) {
     let alloc = rt.alloc();
     prints_expr(&rt, alloc, b"((a))", 5, b"a ");
