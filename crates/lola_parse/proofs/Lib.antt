@@ -1,8 +1,10 @@
+pub mod Begun
 pub mod Designs
 pub mod Expressions
 pub mod Follow
 pub mod Fronts
 pub mod Lie
+pub mod Local
 pub mod Modules
 pub mod OneTree
 pub mod Parts

@@ -1,6 +1,7 @@
 pub mod Behind
 pub mod Design
 pub mod Grammar
+pub mod Long
 pub mod MayEnd
 pub mod Parts
 pub mod Read

@@ -1,4 +1,4 @@
-ghost use Rattle.std.specs.Prelude.{ℕ, ◌<◌, ◌≤◌, length, IfOk, ◌≡◌};
+ghost use Rattle.std.specs.Prelude.{ℕ, ◌<◌, ◌≤◌, length, IfOk, IfErr, ◌≡◌};
 ghost use Rattle.lola_tree.specs.Tree.{tree};
 ghost use Rattle.lola_parse.specs.Parts.{part_tree, parts_tree};
 ghost use Rattle.lola_parse.specs.Grammar.{Expression, Rel, Sum, Terms, Term, Factors, Factor, OnePart, MoreParts, relation_of, adding_of};
@@ -6,6 +6,7 @@ ghost use Rattle.lola_parse.specs.Design.{Outermost};
 ghost use Rattle.lola_parse.specs.Behind.{ChoiceBehind, NegationBehind, NestedBehind, ShiftBehind, ConcatBehind, IndexBehind, Referred, PartRead};
 ghost use Rattle.lola_parse.specs.MayEnd.{Closes};
 ghost use Rattle.lola_parse.specs.Read.{Stops, IsWant, IsWhole};
+ghost use Rattle.lola_parse.specs.Long.{Any, AnyChoice, AnyTerms, AnyFactors, AnyParts, FailsBy};
 
 use crate::cursor::Cursor;
 use crate::fault::Fault;
@@ -84,6 +85,7 @@ impl Descent {
         ensures shorter { IfOk result (λ read. length read.1 < length here.entry) }
         ensures ok { IfOk result (λ read. Expression self.language here.entry (tree read.0.value) read.1) }
         ensures whole { IsWhole (λ b. tree b.value) (Expression self.language here.entry) (Closes 3 self.floor) result }
+        ensures fails { IfErr result (FailsBy (Any (Expression self.language)) self.floor here.entry) }
     {
         let (test, behind) = self.rel(here)?;
         let next = behind.next();
@@ -104,6 +106,7 @@ impl Descent {
         ensures shorter { IfOk result (λ read. length read.1 < length here.entry) }
         ensures ok { IfOk result (λ read. ChoiceBehind self.language (tree test.value) at here.entry (tree read.0.value) read.1) }
         ensures whole { IsWhole (λ b. tree b.value) (ChoiceBehind self.language (tree test.value) at here.entry) (Closes 3 self.floor) result }
+        ensures fails { IfErr result (FailsBy (AnyChoice self.language) self.floor here.entry) }
     {
         let (yes, behind) = self.expr(here)?;
         let behind = behind.behind_colon()?;
@@ -117,6 +120,7 @@ impl Descent {
         ensures shorter { IfOk result (λ read. length read.1 < length here.entry) }
         ensures ok { IfOk result (λ read. Rel self.language here.entry (tree read.0.value) read.1) }
         ensures whole { IsWhole (λ b. tree b.value) (Rel self.language here.entry) (Closes 4 self.floor) result }
+        ensures fails { IfErr result (FailsBy (Any (Rel self.language)) self.floor here.entry) }
     {
         let (left, behind) = self.sum(here)?;
         let next = behind.next();
@@ -135,6 +139,7 @@ impl Descent {
         ensures shorter { IfOk result (λ read. length read.1 < length here.entry) }
         ensures ok { IfOk result (λ read. Sum self.language here.entry (tree read.0.value) read.1) }
         ensures whole { IsWhole (λ b. tree b.value) (Sum self.language here.entry) (Closes 5 self.floor) result }
+        ensures fails { IfErr result (FailsBy (Any (Sum self.language)) self.floor here.entry) }
     {
         let (first, behind) = self.term(here)?;
         self.terms(first, behind)
@@ -146,6 +151,7 @@ impl Descent {
         ensures shorter { IfOk result (λ read. length read.1 ≤ length here.entry) }
         ensures ok { IfOk result (λ read. Terms self.language (tree left.value) here.entry (tree read.0.value) read.1) }
         ensures whole { IsWhole (λ b. tree b.value) (Terms self.language (tree left.value) here.entry) (Closes 5 self.floor) result }
+        ensures fails { IfErr result (FailsBy (AnyTerms self.language) self.floor here.entry) }
     {
         let next = here.next();
         match adding(next.symbol) {
@@ -164,6 +170,7 @@ impl Descent {
         ensures shorter { IfOk result (λ read. length read.1 < length here.entry) }
         ensures ok { IfOk result (λ read. Term self.language here.entry (tree read.0.value) read.1) }
         ensures whole { IsWhole (λ b. tree b.value) (Term self.language here.entry) (Closes 6 self.floor) result }
+        ensures fails { IfErr result (FailsBy (Any (Term self.language)) self.floor here.entry) }
     {
         let (first, behind) = self.factor(here)?;
         self.factors(first, behind)
@@ -179,6 +186,7 @@ impl Descent {
         ensures shorter { IfOk result (λ read. length read.1 ≤ length here.entry) }
         ensures ok { IfOk result (λ read. Factors self.language (tree left.value) here.entry (tree read.0.value) read.1) }
         ensures whole { IsWhole (λ b. tree b.value) (Factors self.language (tree left.value) here.entry) (Closes 6 self.floor) result }
+        ensures fails { IfErr result (FailsBy (AnyFactors self.language) self.floor here.entry) }
     {
         let next = here.next();
         match next.symbol {
@@ -197,6 +205,7 @@ impl Descent {
         ensures shorter { IfOk result (λ read. length read.1 < length here.entry) }
         ensures ok { IfOk result (λ read. Factor self.language here.entry (tree read.0.value) read.1) }
         ensures whole { IsWhole (λ b. tree b.value) (Factor self.language here.entry) (Closes 7 self.floor) result }
+        ensures fails { IfErr result (FailsBy (Any (Factor self.language)) self.floor here.entry) }
     {
         if here.left() < self.floor {
             return Err(Fault::Long { left: self.floor });
@@ -225,6 +234,7 @@ impl Descent {
         ensures shorter { IfOk result (λ read. length read.1 < length here.entry) }
         ensures ok { IfOk result (λ read. NegationBehind self.language at here.entry (tree read.0.value) read.1) }
         ensures whole { IsWhole (λ b. tree b.value) (NegationBehind self.language at here.entry) (Closes 7 self.floor) result }
+        ensures fails { IfErr result (FailsBy (Any (Factor self.language)) self.floor here.entry) }
     {
         let (arg, behind) = self.factor(here)?;
         Ok((not_of(self.alloc, arg, at)?, behind))
@@ -236,6 +246,7 @@ impl Descent {
         ensures shorter { IfOk result (λ read. length read.1 < length here.entry) }
         ensures ok { IfOk result (λ read. NestedBehind self.language here.entry (tree read.0.value) read.1) }
         ensures whole { IsWhole (λ b. tree b.value) (NestedBehind self.language here.entry) (λ rest. self.floor ≤ length rest) result }
+        ensures fails { IfErr result (FailsBy (Any (NestedBehind self.language)) self.floor here.entry) }
     {
         let (inner, behind) = self.expr(here)?;
         Ok((inner, behind.behind_close_paren()?))
@@ -247,6 +258,7 @@ impl Descent {
         ensures shorter { IfOk result (λ read. length read.1 < length here.entry) }
         ensures ok { IfOk result (λ read. ShiftBehind self.language op at here.entry (tree read.0.value) read.1) }
         ensures whole { IsWhole (λ b. tree b.value) (ShiftBehind self.language op at here.entry) (λ rest. self.floor ≤ length rest) result }
+        ensures fails { IfErr result (FailsBy (Any (ShiftBehind self.language op at)) self.floor here.entry) }
     {
         let behind = here.behind_open_paren()?;
         let (value, behind) = self.expr(behind)?;
@@ -262,6 +274,7 @@ impl Descent {
         ensures shorter { IfOk result (λ read. length read.1 < length here.entry) }
         ensures ok { IfOk result (λ read. ConcatBehind self.language at here.entry (tree read.0.value) read.1) }
         ensures whole { IsWhole (λ b. tree b.value) (ConcatBehind self.language at here.entry) (λ rest. self.floor ≤ length rest) result }
+        ensures fails { IfErr result (FailsBy (Any (ConcatBehind self.language at)) self.floor here.entry) }
     {
         let (first, behind) = self.part(here)?;
         let (parts, behind) = self.parts(only(self.alloc, first)?, behind)?;
@@ -275,6 +288,7 @@ impl Descent {
         ensures shorter { IfOk result (λ read. length read.1 ≤ length here.entry) }
         ensures ok { IfOk result (λ read. MoreParts self.language (parts_tree parts.items) here.entry (parts_tree read.0.items) read.1) }
         ensures whole { IsWhole (λ v. parts_tree v.items) (MoreParts self.language (parts_tree parts.items) here.entry) (Closes 1 self.floor) result }
+        ensures fails { IfErr result (FailsBy (AnyParts self.language) self.floor here.entry) }
     {
         let next = here.next();
         match next.symbol {
@@ -292,6 +306,7 @@ impl Descent {
         ensures shorter { IfOk result (λ read. length read.1 < length here.entry) }
         ensures ok { IfOk result (λ read. OnePart self.language here.entry (tree read.0.value) read.0.times read.1) }
         ensures whole { IsWhole part_tree (PartRead self.language here.entry) (Closes 2 self.floor) result }
+        ensures fails { IfErr result (FailsBy (Any (PartRead self.language)) self.floor here.entry) }
     {
         let at = here.at();
         let (value, behind) = self.expr(here)?;
@@ -305,6 +320,7 @@ impl Descent {
         ensures shorter { IfOk result (λ read. length read.1 < length here.entry) }
         ensures ok { IfOk result (λ read. Factor self.language here.entry (tree read.0.value) read.1) }
         ensures whole { IsWhole (λ b. tree b.value) (Referred self.language here.entry) (Closes 7 self.floor) result }
+        ensures fails { IfErr result (FailsBy (Any (Factor self.language)) self.floor here.entry) }
     {
         let (of, behind) = reference(self.alloc, self.language, here)?;
         let next = behind.next();
@@ -327,6 +343,7 @@ impl Descent {
         ensures shorter { IfOk result (λ read. length read.1 < length here.entry) }
         ensures ok { IfOk result (λ read. IndexBehind self.language of at here.entry (tree read.0.value) read.1) }
         ensures whole { IsWhole (λ b. tree b.value) (IndexBehind self.language of at here.entry) (λ rest. self.floor ≤ length rest) result }
+        ensures fails { IfErr result (FailsBy (Any (IndexBehind self.language of at)) self.floor here.entry) }
     {
         let (place, behind) = self.expr(here)?;
         let behind = behind.behind_close_bracket()?;

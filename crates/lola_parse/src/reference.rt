@@ -1,10 +1,11 @@
-ghost use Rattle.std.specs.Prelude.{ℕ, ◌<◌, ◌≤◌, Bool, true, false, List, length, IfOk, ◌≡◌, [], ◌∷◌};
+ghost use Rattle.std.specs.Prelude.{ℕ, ◌<◌, ◌≤◌, Bool, true, false, List, length, IfOk, IfErr, ◌≡◌, [], ◌∷◌};
 ghost use Rattle.lola_tree.specs.Tree.{tree};
 ghost use Rattle.lola_parse.specs.Symbols.{Item};
 ghost use Rattle.lola_parse.specs.Grammar.{Passes, Counted, Times, Reference};
 ghost use Rattle.lola_parse.specs.Behind.{BitBehind, SliceBehind, SliceBegins, PathBehind};
 ghost use Rattle.lola_parse.specs.MayEnd.{Closes, PathCloses};
 ghost use Rattle.lola_parse.specs.Read.{IsWhole, Anywhere};
+ghost use Rattle.lola_parse.specs.Long.{Any, AnyTimes, StopsBy};
 
 use crate::cursor::Cursor;
 use crate::fault::Fault;
@@ -23,6 +24,7 @@ pub(crate) fn count<'a>(
     ensures shorter { IfOk result (λ read. length read.1 < length here.entry) }
     ensures ok { IfOk result (λ read. Counted language here.entry read.0 read.1) }
     ensures whole { IsWhole (λ c. c) (Counted language here.entry) Anywhere result }
+    ensures stops { IfErr result (StopsBy (Any (Counted language)) here.entry) }
 {
     let next = here.next();
     match next.symbol {
@@ -86,6 +88,7 @@ pub(crate) fn times<'a>(
     ensures shorter { IfOk result (λ read. length read.1 ≤ length here.entry) }
     ensures ok { IfOk result (λ read. Times language at here.entry read.0 read.1) }
     ensures whole { IsWhole (λ c. c) (Times language at here.entry) (Closes 2 0) result }
+    ensures stops { IfErr result (StopsBy (AnyTimes language) here.entry) }
 {
     let next = here.next();
     match next.symbol {
@@ -105,6 +108,7 @@ pub(crate) fn bit<'a>(
     ensures shorter { IfOk result (λ read. length read.1 < length here.entry) }
     ensures ok { IfOk result (λ read. BitBehind language of at here.entry (tree read.0.value) read.1) }
     ensures whole { IsWhole (λ b. tree b.value) (BitBehind language of at here.entry) Anywhere result }
+    ensures stops { IfErr result (StopsBy (Any (BitBehind language of at)) here.entry) }
 {
     let (index, behind) = count(alloc, language, here)?;
     Ok((bit_of(alloc, of, index, at)?, behind))
@@ -121,6 +125,7 @@ pub(crate) fn slice<'a>(
     ensures shorter { IfOk result (λ read. length read.1 < length here.entry) }
     ensures ok { IfOk result (λ read. SliceBehind language of at here.entry (tree read.0.value) read.1) }
     ensures whole { IsWhole (λ b. tree b.value) (SliceBehind language of at here.entry) Anywhere result }
+    ensures stops { IfErr result (StopsBy (Any (SliceBehind language of at)) here.entry) }
 {
     let (high, behind) = count(alloc, language, here)?;
     let behind = behind.behind_colon()?;
@@ -138,6 +143,7 @@ pub(crate) fn reference<'a>(
     ensures shorter { IfOk result (λ read. length read.1 < length here.entry) }
     ensures ok { IfOk result (λ read. Reference language here.entry read.0 read.1) }
     ensures whole { IsWhole (λ r. r) (Reference language here.entry) (PathCloses language) result }
+    ensures stops { IfErr result (StopsBy (Any (Reference language)) here.entry) }
 {
     let next = here.next();
     match next.symbol {
@@ -175,6 +181,7 @@ fn path<'a>(alloc: Global, here: Cursor<'a>) -> Result<(Vec<Name>, Cursor<'a>), 
     ensures shorter { IfOk result (λ read. length read.1 < length here.entry) }
     ensures ok { IfOk result (λ read. PathBehind here.entry read.0.items read.1) }
     ensures whole { IsWhole (λ v. v.items) (PathBehind here.entry) (PathCloses Language.Table) result }
+    ensures stops { IfErr result (StopsBy (Any PathBehind) here.entry) }
 {
     let next = here.next();
     if !next.is_word {

@@ -3,6 +3,9 @@ use Rattle.lola_parse.specs.declared.symbol.Symbol.TheVariants as s
 use Rattle.lola_parse.specs.Grammar.{fixed}
 use Rattle.lola_parse.proofs.Fronts.{stands, names, counted_name}
 use Rattle.lola_parse.proofs.Refer.{count_none}
+use Rattle.lola_parse.specs.Grammar.{Counted}
+use Rattle.lola_parse.specs.Long.{Any}
+use Rattle.lola_parse.proofs.Begun.{count_runs, stops_here}
 use Rattle.lola_parse.proofs.reference.count.Goals as goal
 
 pub returns-in-None-clause-ok : goal.returns-in-None-clause-ok
@@ -17,3 +20,12 @@ returns-in_ok-name-in-Design-clause-ok c =
 
 pub returns-in_default-clause-whole : goal.returns-in_default-clause-whole
 returns-in_default-clause-whole c = λ k rest read ends. absurd (count_none c.next-next.result c.next-next.ensures c.in_default.not-Number c.in_default.not-Name read)
+
+pub returns-in-Some-clause-stops : goal.returns-in-Some-clause-stops
+returns-in-Some-clause-stops c = stops_here (Any (Counted c.args.language)) _ _ count_runs c.fault.ensures
+
+pub returns-in-Table-clause-stops : goal.returns-in-Table-clause-stops
+returns-in-Table-clause-stops c = stops_here (Any (Counted c.args.language)) _ _ count_runs c.fault-in-Table.ensures
+
+pub returns-in_default-clause-stops : goal.returns-in_default-clause-stops
+returns-in_default-clause-stops c = stops_here (Any (Counted c.args.language)) _ _ count_runs c.fault-in_default.ensures

@@ -4,6 +4,9 @@ use Rattle.lola_parse.specs.Grammar.{Path, no_word, one_word}
 use Rattle.lola_parse.proofs.Fronts.{stands, words, Stands-shorter, Words-shorter}
 use Rattle.lola_parse.proofs.Whole.{not_front}
 use Rattle.lola_parse.proofs.Refer.{word_is, path_over, path_no_word, path_word, pushed_is}
+use Rattle.lola_parse.specs.Behind.{PathBehind}
+use Rattle.lola_parse.specs.Long.{Any}
+use Rattle.lola_parse.proofs.Begun.{stops_here, path_runs}
 use Rattle.lola_parse.proofs.reference.path.Goals as goal
 
 pub returns-then-not-next-2-clause-ok : goal.returns-then-not-next-2-clause-ok
@@ -20,6 +23,7 @@ returns-in_default c = record {
   shorter = c.words.invariant.shorter;
   whole = λ path rest read closes. path_over (c.words.invariant.whole path rest read closes) (not_front c.words.behind c.next-dot.result c.next-dot.ensures c.in_default.not-Dot);
   ok = c.words.invariant.reads _ _ (no_word refl refl);
+  stops = tt;
 }
 
 pub words-init : goal.words-init
@@ -59,3 +63,6 @@ words-preserved c =
           (subst (λ p. Path p c.next-next-in-Dot.result.rest path rest)
           pushed more));
     }
+
+pub returns-then-not-next-clause-stops : goal.returns-then-not-next-clause-stops
+returns-then-not-next-clause-stops c = stops_here (Any PathBehind) _ _ path_runs c.fault.ensures

@@ -5,6 +5,8 @@ use Rattle.lola_parse.specs.Grammar.{once, repeated}
 use Rattle.lola_parse.proofs.Fronts.{stands}
 use Rattle.lola_parse.proofs.Whole.{not_front, times_once}
 use Rattle.lola_parse.proofs.Whole.{times_count}
+use Rattle.lola_parse.proofs.Local.{passes_local, times_of}
+use Rattle.lola_parse.proofs.Begun.{begins_as, begins_then, stops_in}
 use Rattle.lola_parse.proofs.reference.times.Goals as goal
 
 pub returns-in-Times-clause-ok : goal.returns-in-Times-clause-ok
@@ -20,3 +22,9 @@ returns-in_default-clause-whole c = λ times rest read closes. times_once read (
 
 pub returns-in-Times-clause-whole : goal.returns-in-Times-clause-whole
 returns-in-Times-clause-whole c = λ k rest read closes. c.count.ensures.whole k rest (times_count read closes (stands c.args.here c.next-next.result s.Times c.next-next.ensures c.in-Times.is refl)) tt
+
+pub returns-in-Times-clause-stops : goal.returns-in-Times-clause-stops
+returns-in-Times-clause-stops c =
+    stops_in c.count.result
+    (λ left b. begins_as times_of (begins_then (passes_local (_, stands c.args.here c.next-next.result s.Times c.next-next.ensures c.in-Times.is refl)) b))
+    c.count.ensures.stops

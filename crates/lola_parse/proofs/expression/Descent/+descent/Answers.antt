@@ -1,4 +1,4 @@
-use Rattle.std.proofs.Common.{inl, inr, refl, sym, ap, ◌∙◌, subst, arith}
+use Rattle.std.proofs.Common.{inl, inr, length, refl, sym, ap, ◌∙◌, subst, arith}
 use Rattle.std.proofs.lemmas.Result.{IfOk-weaker}
 use Rattle.lola_parse.specs.declared.symbol.Symbol.TheVariants as s
 use Rattle.lola_parse.specs.Grammar.{one_rel, one_sum, related, sum, no_term, term, no_factor, numbered, named, part, Times, no_more, relation_of, adding_of}
@@ -10,6 +10,10 @@ use Rattle.lola_parse.proofs.Suffix.{factor_ends}
 use Rattle.lola_parse.proofs.Follow.{ends_within, closes_more}
 use Rattle.lola_parse.proofs.Whole.{handed_on, next_front, not_front, passes_on, any_floor, pair_is, expression_begins, expression_alone, expression_chosen, choice_first, choice_colon, choice_second, choice_made, rel_begins, rel_alone, rel_second, rel_made, sum_begins, sum_more, terms_none, terms_term, terms_more, term_begins, term_more, factors_none, factors_factor, factors_more, part_begins, part_times, part_value, parts_none, parts_part, parts_next, brace_closes, concat_first, concat_more, nested_closes, index_closes, shift_open, shift_first, shift_second, shift_comma, shift_by, shift_close, shift_made}
 use Rattle.lola_parse.proofs.Refer.{referred_begins, referred_alone, referred_bit, referred_bracket, slice_only, index_only, factor_next, factor_none, no_shift}
+use Rattle.lola_parse.specs.Grammar.{Factor}
+use Rattle.lola_parse.specs.Long.{Any}
+use Rattle.lola_parse.proofs.Local.{rel_of, chosen_of, choice_of, sum_alone, related_of, sum_of, terms_of, term_of, factors_of, negated_of, nested_of, paren_of, shift_of_parts, shifted_of, concat_of_parts, brace_of, parts_of, part_of, named_of, one_bit_of, sliced_of, indexed_of, index_of_parts, stands_local, passes_local, reference_local, expression_local, rel_local, sum_local, term_local, factor_local, part_local, parts_local}
+use Rattle.lola_parse.proofs.Begun.{◌then◌, closes_run, expression_runs, factor_runs, no_terms_runs, no_factors_runs, no_parts_runs, no_times_runs, begins_here, begins_as, begins_then, begins_before, fails_here, fails_on, fails_on_short, fails_at, fails_in, fails_in_short}
 use Rattle.lola_parse.proofs.expression.Descent.+descent.Goals as goal
 
 pub expr-returns-in-Arrow-clause-ok : goal.expr-returns-in-Arrow-clause-ok
@@ -307,3 +311,179 @@ reference-returns-else-begins_slice-clause-whole t c = λ e rest d k. c.index.en
 
 pub reference-returns-in_ok-whole-in_default-clause-whole : goal.reference-returns-in_ok-whole-in_default-clause-whole
 reference-returns-in_ok-whole-in_default-clause-whole t c = λ e rest d k. let same = referred_alone d k c.in_ok-of.ensures.whole (not_front c.in_ok-of.behind c.next-next.result c.next-next.ensures c.in_default.not-Dot) (not_front c.in_ok-of.behind c.next-next.result c.next-next.ensures c.in_default.not-OpenBracket) in (c.in_ok-whole-in_default.ensures ∙ same.0, same.1)
+
+pub expr-returns-in_err-test-clause-fails : goal.expr-returns-in_err-test-clause-fails
+expr-returns-in_err-test-clause-fails t c =
+    fails_on c.args.self.floor _ _ (λ left b. begins_as rel_of b) c.from_residual.ensures.1 c.in_err-test.ensures.fails
+
+pub expr-returns-in-Arrow-clause-fails : goal.expr-returns-in-Arrow-clause-fails
+expr-returns-in-Arrow-clause-fails t c =
+    fails_in c.args.self.floor c.choice.result (λ left b. begins_as chosen_of (begins_then (rel_local c.in_ok-test.ensures.ok) (begins_then (passes_local (_, stands c.in_ok-test.behind c.next-next.result s.Arrow c.next-next.ensures c.in-Arrow.is refl)) b))) c.choice.ensures.fails
+
+pub choice-returns-in_err-yes-clause-fails : goal.choice-returns-in_err-yes-clause-fails
+choice-returns-in_err-yes-clause-fails t c =
+    fails_on c.args.self.floor _ _ (λ left b. begins_as choice_of (begins_before (closes_run s.Colon then expression_runs) b)) c.from_residual.ensures.1 c.in_err-yes.ensures.fails
+
+pub choice-returns-in_err-behind-clause-fails : goal.choice-returns-in_err-behind-clause-fails
+choice-returns-in_err-behind-clause-fails t c =
+    fails_at c.args.self.floor _ _ (λ left b. begins_as choice_of (begins_then (expression_local c.in_ok-yes.ensures.ok) (begins_before expression_runs b))) c.from_residual-in_err-behind.ensures.1 c.in_err-behind.ensures.fails
+
+pub choice-returns-in_err-no-clause-fails : goal.choice-returns-in_err-no-clause-fails
+choice-returns-in_err-no-clause-fails t c =
+    fails_on c.args.self.floor _ _ (λ left b. begins_as choice_of (begins_then (expression_local c.in_ok-yes.ensures.ok) (begins_then (passes_local c.in_ok-behind.ensures.ok) b))) c.from_residual-in_err-no.ensures.1 c.in_err-no.ensures.fails
+
+pub rel-returns-in_err-left-clause-fails : goal.rel-returns-in_err-left-clause-fails
+rel-returns-in_err-left-clause-fails t c =
+    fails_on c.args.self.floor _ _ (λ left b. begins_as sum_alone b) c.from_residual.ensures.1 c.in_err-left.ensures.fails
+
+pub rel-returns-in_err-right-in-Some-clause-fails : goal.rel-returns-in_err-right-in-Some-clause-fails
+rel-returns-in_err-right-in-Some-clause-fails t c =
+    fails_on c.args.self.floor _ _ (λ left b. begins_as (related_of (sym c.in-Some.ensures)) (begins_then (sum_local c.in_ok-left.ensures.ok) (begins_then (passes_local (_, (stands_op relation_of c.in_ok-left.behind c.next-next.result _ c.next-next.ensures refl (sym c.in-Some.ensures)))) b))) c.from_residual-in_err-right-in-Some.ensures.1 c.in_err-right-in-Some.ensures.fails
+
+pub sum-returns-in_err-first-clause-fails : goal.sum-returns-in_err-first-clause-fails
+sum-returns-in_err-first-clause-fails t c =
+    fails_on c.args.self.floor _ _ (λ left b. begins_as sum_of (begins_before no_terms_runs b)) c.from_residual.ensures.1 c.in_err-first.ensures.fails
+
+pub sum-returns-clause-fails : goal.sum-returns-clause-fails
+sum-returns-clause-fails t c =
+    fails_in c.args.self.floor c.terms.result (λ left b. begins_as sum_of (begins_then (term_local c.in_ok-first.ensures.ok) b)) c.terms.ensures.fails
+
+pub terms-returns-in_err-right-in-Some-clause-fails : goal.terms-returns-in_err-right-in-Some-clause-fails
+terms-returns-in_err-right-in-Some-clause-fails t c =
+    fails_on c.args.self.floor _ _ (λ left b. begins_as (terms_of (sym c.in-Some.ensures)) (begins_then (passes_local (_, (stands_op adding_of c.args.here c.next-next.result _ c.next-next.ensures refl (sym c.in-Some.ensures)))) (begins_before no_terms_runs b))) c.from_residual.ensures.1 c.in_err-right-in-Some.ensures.fails
+
+pub terms-returns-in_ok-sum-in-Some-clause-fails : goal.terms-returns-in_ok-sum-in-Some-clause-fails
+terms-returns-in_ok-sum-in-Some-clause-fails t c =
+    fails_in c.args.self.floor c.terms.result (λ left b. begins_as (terms_of (sym c.in-Some.ensures)) (begins_then (passes_local (_, (stands_op adding_of c.args.here c.next-next.result _ c.next-next.ensures refl (sym c.in-Some.ensures)))) (begins_then (term_local c.in_ok-right-in-Some.ensures.ok) b))) c.terms.ensures.fails
+
+pub term-returns-in_err-first-clause-fails : goal.term-returns-in_err-first-clause-fails
+term-returns-in_err-first-clause-fails t c =
+    fails_on c.args.self.floor _ _ (λ left b. begins_as term_of (begins_before no_factors_runs b)) c.from_residual.ensures.1 c.in_err-first.ensures.fails
+
+pub term-returns-clause-fails : goal.term-returns-clause-fails
+term-returns-clause-fails t c =
+    fails_in c.args.self.floor c.factors.result (λ left b. begins_as term_of (begins_then (factor_local c.in_ok-first.ensures.ok) b)) c.factors.ensures.fails
+
+pub factors-returns-in_err-right-in-And-clause-fails : goal.factors-returns-in_err-right-in-And-clause-fails
+factors-returns-in_err-right-in-And-clause-fails t c =
+    fails_on c.args.self.floor _ _ (λ left b. begins_as factors_of (begins_then (passes_local (_, stands c.args.here c.next-next.result s.And c.next-next.ensures c.in-And.is refl)) (begins_before no_factors_runs b))) c.from_residual.ensures.1 c.in_err-right-in-And.ensures.fails
+
+pub factors-returns-in_ok-product-in-And-clause-fails : goal.factors-returns-in_ok-product-in-And-clause-fails
+factors-returns-in_ok-product-in-And-clause-fails t c =
+    fails_in c.args.self.floor c.factors.result (λ left b. begins_as factors_of (begins_then (passes_local (_, stands c.args.here c.next-next.result s.And c.next-next.ensures c.in-And.is refl)) (begins_then (factor_local c.in_ok-right-in-And.ensures.ok) b))) c.factors.ensures.fails
+
+pub factor-returns-then-left-self-clause-fails : goal.factor-returns-then-left-self-clause-fails
+factor-returns-then-left-self-clause-fails t c =
+    let left = c.left.ensures in let short = c.if-left-self.true in (refl, length c.args.here, omega arith, begins_here factor_runs)
+
+pub factor-returns-in-Not-clause-fails : goal.factor-returns-in-Not-clause-fails
+factor-returns-in-Not-clause-fails t c =
+    fails_in c.args.self.floor c.negation.result (λ left b. begins_as negated_of (begins_then (passes_local (_, stands c.args.here c.next-next.result s.Not c.next-next.ensures c.in-Not.is refl)) b)) c.negation.ensures.fails
+
+pub factor-returns-in-OpenBrace-clause-fails : goal.factor-returns-in-OpenBrace-clause-fails
+factor-returns-in-OpenBrace-clause-fails t c =
+    fails_in c.args.self.floor c.concat.result (λ left b. begins_as brace_of (begins_then (stands_local (stands c.args.here c.next-next.result s.OpenBrace c.next-next.ensures c.in-OpenBrace.is refl)) b)) c.concat.ensures.fails
+
+pub factor-returns-in-OpenParen-clause-fails : goal.factor-returns-in-OpenParen-clause-fails
+factor-returns-in-OpenParen-clause-fails t c =
+    fails_in c.args.self.floor c.nested.result (λ left b. begins_as paren_of (begins_then (passes_local (_, stands c.args.here c.next-next.result s.OpenParen c.next-next.ensures c.in-OpenParen.is refl)) b)) c.nested.ensures.fails
+
+pub factor-returns-in-Shl-clause-fails : goal.factor-returns-in-Shl-clause-fails
+factor-returns-in-Shl-clause-fails t c =
+    fails_in c.args.self.floor c.shift.result (λ left b. begins_as (shifted_of refl) (begins_then (stands_local (stands c.args.here c.next-next.result s.Shl c.next-next.ensures c.in-Shl.is refl)) b)) c.shift.ensures.fails
+
+pub factor-returns-in-Shr-clause-fails : goal.factor-returns-in-Shr-clause-fails
+factor-returns-in-Shr-clause-fails t c =
+    fails_in c.args.self.floor c.shift-in-Shr.result (λ left b. begins_as (shifted_of refl) (begins_then (stands_local (stands c.args.here c.next-next.result s.Shr c.next-next.ensures c.in-Shr.is refl)) b)) c.shift-in-Shr.ensures.fails
+
+pub factor-returns-in-Asr-clause-fails : goal.factor-returns-in-Asr-clause-fails
+factor-returns-in-Asr-clause-fails t c =
+    fails_in c.args.self.floor c.shift-in-Asr.result (λ left b. begins_as (shifted_of refl) (begins_then (stands_local (stands c.args.here c.next-next.result s.Asr c.next-next.ensures c.in-Asr.is refl)) b)) c.shift-in-Asr.ensures.fails
+
+pub factor-returns-in-Ror-clause-fails : goal.factor-returns-in-Ror-clause-fails
+factor-returns-in-Ror-clause-fails t c =
+    fails_in c.args.self.floor c.shift-in-Ror.result (λ left b. begins_as (shifted_of refl) (begins_then (stands_local (stands c.args.here c.next-next.result s.Ror c.next-next.ensures c.in-Ror.is refl)) b)) c.shift-in-Ror.ensures.fails
+
+pub factor-returns-in_default-clause-fails : goal.factor-returns-in_default-clause-fails
+factor-returns-in_default-clause-fails t c =
+    fails_here (Any (Factor c.args.self.language)) c.args.self.floor _ _ factor_runs c.fault.ensures
+
+pub nested-returns-in_err-inner-clause-fails : goal.nested-returns-in_err-inner-clause-fails
+nested-returns-in_err-inner-clause-fails t c =
+    fails_on c.args.self.floor _ _ (λ left b. begins_as nested_of (begins_before (closes_run s.CloseParen) b)) c.from_residual.ensures.1 c.in_err-inner.ensures.fails
+
+pub nested-returns-in_err-behind_close_paren-clause-fails : goal.nested-returns-in_err-behind_close_paren-clause-fails
+nested-returns-in_err-behind_close_paren-clause-fails t c =
+    fails_at c.args.self.floor _ _ (λ left b. begins_as nested_of (begins_then (expression_local c.in_ok-inner.ensures.ok) b)) c.from_residual-in_err-behind_close_paren.ensures.1 c.in_err-behind_close_paren.ensures.fails
+
+pub shift-returns-in_err-behind-clause-fails : goal.shift-returns-in_err-behind-clause-fails
+shift-returns-in_err-behind-clause-fails t c =
+    fails_at c.args.self.floor _ _ (λ left b. begins_as shift_of_parts (begins_before (expression_runs then (closes_run s.Comma then (expression_runs then closes_run s.CloseParen))) b)) c.from_residual.ensures.1 c.in_err-behind.ensures.fails
+
+pub shift-returns-in_err-value-clause-fails : goal.shift-returns-in_err-value-clause-fails
+shift-returns-in_err-value-clause-fails t c =
+    fails_on c.args.self.floor _ _ (λ left b. begins_as shift_of_parts (begins_then (passes_local c.in_ok-behind.ensures.ok) (begins_before (closes_run s.Comma then (expression_runs then closes_run s.CloseParen)) b))) c.from_residual-in_err-value.ensures.1 c.in_err-value.ensures.fails
+
+pub shift-returns-in_err-behind-2-clause-fails : goal.shift-returns-in_err-behind-2-clause-fails
+shift-returns-in_err-behind-2-clause-fails t c =
+    fails_at c.args.self.floor _ _ (λ left b. begins_as shift_of_parts (begins_then (passes_local c.in_ok-behind.ensures.ok) (begins_then (expression_local c.in_ok-value.ensures.ok) (begins_before (expression_runs then closes_run s.CloseParen) b)))) c.from_residual-in_err-behind-2.ensures.1 c.in_err-behind-2.ensures.fails
+
+pub shift-returns-in_err-by-clause-fails : goal.shift-returns-in_err-by-clause-fails
+shift-returns-in_err-by-clause-fails t c =
+    fails_on c.args.self.floor _ _ (λ left b. begins_as shift_of_parts (begins_then (passes_local c.in_ok-behind.ensures.ok) (begins_then (expression_local c.in_ok-value.ensures.ok) (begins_then (passes_local c.in_ok-behind-2.ensures.ok) (begins_before (closes_run s.CloseParen) b))))) c.from_residual-in_err-by.ensures.1 c.in_err-by.ensures.fails
+
+pub shift-returns-in_err-behind-3-clause-fails : goal.shift-returns-in_err-behind-3-clause-fails
+shift-returns-in_err-behind-3-clause-fails t c =
+    fails_at c.args.self.floor _ _ (λ left b. begins_as shift_of_parts (begins_then (passes_local c.in_ok-behind.ensures.ok) (begins_then (expression_local c.in_ok-value.ensures.ok) (begins_then (passes_local c.in_ok-behind-2.ensures.ok) (begins_then (expression_local c.in_ok-by.ensures.ok) b))))) c.from_residual-in_err-behind-3.ensures.1 c.in_err-behind-3.ensures.fails
+
+pub concat-returns-in_err-first-clause-fails : goal.concat-returns-in_err-first-clause-fails
+concat-returns-in_err-first-clause-fails t c =
+    fails_on c.args.self.floor _ _ (λ left b. begins_as concat_of_parts (begins_before (no_parts_runs then closes_run s.CloseBrace) b)) c.from_residual.ensures.1 c.in_err-first.ensures.fails
+
+pub concat-returns-in_err-parts-clause-fails : goal.concat-returns-in_err-parts-clause-fails
+concat-returns-in_err-parts-clause-fails t c =
+    fails_on c.args.self.floor _ _ (λ left b. begins_as concat_of_parts (begins_then (part_local c.in_ok-first.ensures.ok) (begins_before (closes_run s.CloseBrace) b))) c.from_residual-in_err-parts.ensures.1 c.in_err-parts.ensures.fails
+
+pub concat-returns-in_err-behind-clause-fails : goal.concat-returns-in_err-behind-clause-fails
+concat-returns-in_err-behind-clause-fails t c =
+    fails_at c.args.self.floor _ _ (λ left b. begins_as concat_of_parts (begins_then (part_local c.in_ok-first.ensures.ok) (begins_then (parts_local c.in_ok-parts.ensures.ok) b))) c.from_residual-in_err-behind.ensures.1 c.in_err-behind.ensures.fails
+
+pub parts-returns-in_err-part-in-Comma-clause-fails : goal.parts-returns-in_err-part-in-Comma-clause-fails
+parts-returns-in_err-part-in-Comma-clause-fails t c =
+    fails_on c.args.self.floor _ _ (λ left b. begins_as parts_of (begins_then (passes_local (_, stands c.args.here c.next-next.result s.Comma c.next-next.ensures c.in-Comma.is refl)) (begins_before no_parts_runs b))) c.from_residual.ensures.1 c.in_err-part-in-Comma.ensures.fails
+
+pub parts-returns-in_ok-with_part-in-Comma-clause-fails : goal.parts-returns-in_ok-with_part-in-Comma-clause-fails
+parts-returns-in_ok-with_part-in-Comma-clause-fails t c =
+    fails_in c.args.self.floor c.parts.result (λ left b. begins_as parts_of (begins_then (passes_local (_, stands c.args.here c.next-next.result s.Comma c.next-next.ensures c.in-Comma.is refl)) (begins_then (part_local c.in_ok-part-in-Comma.ensures.ok) b))) c.parts.ensures.fails
+
+pub part-returns-in_err-value-clause-fails : goal.part-returns-in_err-value-clause-fails
+part-returns-in_err-value-clause-fails t c =
+    fails_on c.args.self.floor _ _ (λ left b. begins_as part_of (begins_before no_times_runs b)) c.from_residual.ensures.1 c.in_err-value.ensures.fails
+
+pub part-returns-in_err-times-clause-fails : goal.part-returns-in_err-times-clause-fails
+part-returns-in_err-times-clause-fails t c =
+    fails_on_short c.args.self.floor _ _ (λ left b. begins_as part_of (begins_then (expression_local c.in_ok-value.ensures.ok) b)) c.from_residual-in_err-times.ensures.1 c.in_err-times.ensures.stops
+
+pub reference-returns-in_err-of-clause-fails : goal.reference-returns-in_err-of-clause-fails
+reference-returns-in_err-of-clause-fails t c =
+    fails_on_short c.args.self.floor _ _ (λ left b. begins_as named_of b) c.from_residual.ensures.1 c.in_err-of.ensures.stops
+
+pub reference-returns-in-Dot-clause-fails : goal.reference-returns-in-Dot-clause-fails
+reference-returns-in-Dot-clause-fails t c =
+    fails_in_short c.args.self.floor c.bit.result (λ left b. begins_as one_bit_of (begins_then (reference_local c.in_ok-of.ensures.ok) (begins_then (stands_local (stands c.in_ok-of.behind c.next-next.result s.Dot c.next-next.ensures c.in-Dot.is refl)) b))) c.bit.ensures.stops
+
+pub reference-returns-then-begins_slice-clause-fails : goal.reference-returns-then-begins_slice-clause-fails
+reference-returns-then-begins_slice-clause-fails t c =
+    fails_in_short c.args.self.floor c.slice.result (λ left b. begins_as sliced_of (begins_then (reference_local c.in_ok-of.ensures.ok) (begins_then (stands_local (stands c.in_ok-of.behind c.next-next.result s.OpenBracket c.next-next.ensures c.in-OpenBracket.is refl)) b))) c.slice.ensures.stops
+
+pub reference-returns-else-begins_slice-clause-fails : goal.reference-returns-else-begins_slice-clause-fails
+reference-returns-else-begins_slice-clause-fails t c =
+    fails_in c.args.self.floor c.index.result (λ left b. begins_as indexed_of (begins_then (reference_local c.in_ok-of.ensures.ok) (begins_then (stands_local (stands c.in_ok-of.behind c.next-next.result s.OpenBracket c.next-next.ensures c.in-OpenBracket.is refl)) b))) c.index.ensures.fails
+
+pub index-returns-in_err-place-clause-fails : goal.index-returns-in_err-place-clause-fails
+index-returns-in_err-place-clause-fails t c =
+    fails_on c.args.self.floor _ _ (λ left b. begins_as index_of_parts (begins_before (closes_run s.CloseBracket) b)) c.from_residual.ensures.1 c.in_err-place.ensures.fails
+
+pub index-returns-in_err-behind-clause-fails : goal.index-returns-in_err-behind-clause-fails
+index-returns-in_err-behind-clause-fails t c =
+    fails_at c.args.self.floor _ _ (λ left b. begins_as index_of_parts (begins_then (expression_local c.in_ok-place.ensures.ok) b)) c.from_residual-in_err-behind.ensures.1 c.in_err-behind.ensures.fails
