@@ -1,5 +1,6 @@
 pub mod Begun
 pub mod Designs
+pub mod Endings
 pub mod Expressions
 pub mod Follow
 pub mod Fronts
@@ -14,5 +15,6 @@ pub mod Statements
 pub mod Steps
 pub mod Suffix
 pub mod Symbols
+pub mod TooLong
 pub mod Unique
 pub mod Whole

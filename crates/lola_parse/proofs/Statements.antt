@@ -8,7 +8,7 @@ use Rattle.lola_parse.specs.declared.symbol.Symbol.TheVariants as s
 use Rattle.lola_parse.specs.declared.symbol.Language.TheVariants.{Design}
 use Rattle.lola_parse.specs.Symbols.{Item}
 use Rattle.lola_parse.specs.Grammar.{Stands}
-use Rattle.lola_parse.specs.Design.{Outermost, Argument, MoreArguments, no_argument, one_argument, Statement, assigned, placed, called, driven, Optional, empty, one_statement, MoreStatements, no_statement, next_statement, Body, statements, MoreNames, no_name, one_name, NameList, name_list}
+use Rattle.lola_parse.specs.Design.{Outermost, Argument, argument, MoreArguments, no_argument, one_argument, Statement, assigned, placed, called, driven, Optional, empty, one_statement, MoreStatements, no_statement, next_statement, Body, statements, MoreNames, no_name, one_name, NameList, name_list}
 use Rattle.lola_parse.specs.Behind.{NameRead, AssignedBehind, PlacedBehind, ArgumentsBehind, CalledBehind, PadBehind, NamedStatement, with_value, with_place, with_arguments}
 use Rattle.lola_parse.specs.MayEnd.{Before, ends_statement, StatementEnds}
 use Rattle.lola_parse.specs.Read.{front, goes_on, Stops, Anywhere}
@@ -33,6 +33,10 @@ pub more_names_over : {all rest : List Item} {before names : List Named} → Mor
     (before ≡ names) × (all ≡ rest)
 more_names_over (no_name is none) over = (sym is, sym none)
 more_names_over (one_name next behind stood read more) over = absurd (over (front_is stood))
+
+-- an argument is an expression
+pub argument_step : {all rest : List Item} {a : ActualTree} → Argument all a rest → (e : Tree) × Outermost Design all e rest
+argument_step (argument e read is) = (e, read)
 
 -- an expression stops before such a symbol
 pub stops_at : {symbol : Symbol} {at : ℕ} {all rest : List Item} → Stands symbol at all rest → goes_on symbol ≡ false → Stops all

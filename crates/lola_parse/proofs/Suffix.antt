@@ -17,20 +17,20 @@ pub record Ends (all rest : List Item) : Type 0 where
   pub count : ℕ
   pub is : rest ≡ drop count all
 
-itself : (all rest : List Item) → rest ≡ all → Ends all rest
+pub itself : (all rest : List Item) → rest ≡ all → Ends all rest
 itself all rest e = record { count = 0; is = e }
 
 infixl 20 ◌then◌
-◌then◌ : {a b c : List Item} → Ends a b → Ends b c → Ends a c
+pub ◌then◌ : {a b c : List Item} → Ends a b → Ends b c → Ends a c
 ◌then◌ {a = a} h k = record { count = h.count + k.count; is = k.is ∙ (ap (drop k.count) h.is ∙ drop-drop k.count h.count a) }
 
-past : {symbol : Symbol} {at : ℕ} {all rest : List Item} → Stands symbol at all rest → Ends all rest
+pub past : {symbol : Symbol} {at : ℕ} {all rest : List Item} → Stands symbol at all rest → Ends all rest
 past h = record { count = 1; is = rw h.splits refl }
 
-past_name : {name : List ℕ} {at : ℕ} {all rest : List Item} → Names name at all rest → Ends all rest
+pub past_name : {name : List ℕ} {at : ℕ} {all rest : List Item} → Names name at all rest → Ends all rest
 past_name h = record { count = 1; is = rw h.splits refl }
 
-past_word : {word : List ℕ} {all rest : List Item} → Words word all rest → Ends all rest
+pub past_word : {word : List ℕ} {all rest : List Item} → Words word all rest → Ends all rest
 past_word h = record { count = 1; is = rw h.splits refl }
 
 pub counted_ends : {l : Language} {all rest : List Item} {c : Count} → Counted l all c rest → Ends all rest
@@ -106,7 +106,7 @@ end_is all rest h =
           h.is ∙ ap (λ k. drop k all) n
     ]
 
-items_drop : (l : Language) (text : List ℕ) (n : ℕ) (tokens : List Token) → drop n (items_of l text tokens) ≡ items_of l text (drop n tokens)
+pub items_drop : (l : Language) (text : List ℕ) (n : ℕ) (tokens : List Token) → drop n (items_of l text tokens) ≡ items_of l text (drop n tokens)
 items_drop l text zero tokens = refl
 items_drop l text (suc n) [] = refl
 items_drop l text (suc n) (token ∷ more) = items_drop l text n more

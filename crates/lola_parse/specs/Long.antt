@@ -1,12 +1,13 @@
 -- Expressions that are too long, and what the faults of a descent say of the tokens before them.
-use Rattle.std.specs.Prelude.{◌≡◌, ℕ, ◌+◌, ◌<◌, ◌≤◌, List, [], ◌∷◌, ◌++◌, length, drop}
+use Rattle.std.specs.Prelude.{◌≡◌, ℕ, ◌+◌, ◌-◌, ◌<◌, ◌≤◌, List, [], ◌∷◌, ◌++◌, length, drop}
 use Rattle.lola_tree.specs.Tree.{Tree, Parts}
 use Rattle.lola_parse.specs.declared.symbol.Language.{Language}
 use Rattle.lola_parse.specs.declared.fault.Fault.{Fault}
 use Rattle.lola_parse.specs.declared.fault.Fault.TheVariants as fault
 use Rattle.lola_parse.specs.declared.parser.ParseError.{ParseError}
 use Rattle.lola_parse.specs.declared.parser.ParseError.TheVariants as error
-use Rattle.lola_parse.specs.Symbols.{Item}
+use Rattle.lola_scan.specs.declared.token.Token.{Token}
+use Rattle.lola_parse.specs.Symbols.{Item, items_of}
 use Rattle.lola_parse.specs.Grammar.{Expression, Terms, Factors, MoreParts, Times, place_of}
 use Rattle.lola_parse.specs.Behind.{ChoiceBehind}
 
@@ -111,3 +112,10 @@ abbrev pub LongSays : (ℕ → Type 0) → ParseError → Type 0
 LongSays Says (error.Long at) = Says at
 LongSays Says (error.Syntax at) = Unit {0}
 LongSays Says error.Memory = Unit {0}
+
+-- a place is that of the token from which on so many are left, where the fault is that an expression is
+-- too long
+abbrev pub LongPlaced : List ℕ → List Token → Fault → ℕ → Type 0
+LongPlaced text tokens (fault.Long left) at = (l : Language) → 1 ≤ left → left ≤ length tokens → at ≡ place_of (items_of l text (drop (length tokens - left) tokens))
+LongPlaced text tokens (fault.Syntax left) at = ⊥
+LongPlaced text tokens fault.Memory at = ⊥

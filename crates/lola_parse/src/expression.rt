@@ -1,12 +1,14 @@
-ghost use Rattle.std.specs.Prelude.{ℕ, ◌<◌, ◌≤◌, length, IfOk, IfErr, ◌≡◌};
+ghost use Rattle.std.specs.Prelude.{ℕ, List, ◌<◌, ◌≤◌, length, IfOk, IfErr, ◌≡◌};
 ghost use Rattle.lola_tree.specs.Tree.{tree};
+ghost use Rattle.lola_parse.specs.declared.symbol.Language.{Language as TheLanguage};
+ghost use Rattle.lola_parse.specs.Symbols.{Item};
 ghost use Rattle.lola_parse.specs.Parts.{part_tree, parts_tree};
 ghost use Rattle.lola_parse.specs.Grammar.{Expression, Rel, Sum, Terms, Term, Factors, Factor, OnePart, MoreParts, relation_of, adding_of};
 ghost use Rattle.lola_parse.specs.Design.{Outermost};
 ghost use Rattle.lola_parse.specs.Behind.{ChoiceBehind, NegationBehind, NestedBehind, ShiftBehind, ConcatBehind, IndexBehind, Referred, PartRead};
 ghost use Rattle.lola_parse.specs.MayEnd.{Closes};
 ghost use Rattle.lola_parse.specs.Read.{Stops, IsWant, IsWhole};
-ghost use Rattle.lola_parse.specs.Long.{Any, AnyChoice, AnyTerms, AnyFactors, AnyParts, FailsBy};
+ghost use Rattle.lola_parse.specs.Long.{Any, AnyChoice, AnyTerms, AnyFactors, AnyParts, FailsBy, LongFront};
 
 use crate::cursor::Cursor;
 use crate::fault::Fault;
@@ -33,6 +35,7 @@ pub fn outermost<'a>(
     ensures shorter { IfOk result (λ read. length read.1 < length here.entry) }
     ensures ok { IfOk result (λ read. Outermost language here.entry (tree read.0) read.1) }
     ensures whole { IsWhole tree (Outermost language here.entry) Stops result }
+    ensures long { IfErr result (LongFront language here.entry) }
 {
     let floor = here.left().saturating_sub(LIMIT);
     let descent = Descent {
@@ -54,7 +57,8 @@ pub fn outermost<'a>(
 
 /// The fault of an outermost expression: past the limit it is that the expression is too long.
 fn within(floor: usize, fault: Fault) -> Fault
-    ensures { IsWant fault → IsWant result }
+    ensures wants { IsWant fault → IsWant result }
+    ensures past { (l : TheLanguage) (all : List Item) → FailsBy (Any (Expression l)) floor all fault → FailsBy (Any (Expression l)) floor all result }
 {
     match fault {
         Fault::Syntax { left } => {

@@ -1,9 +1,11 @@
 ghost use Rattle.std.specs.Prelude.{ℕ, ◌<◌, ◌≤◌, length, IfOk, IfErr, OnOk, map, ◌≡◌, [], ◌++◌};
 ghost use Rattle.lola_tree.specs.Tree.{SourceTree, stmt_tree, module_tree, source_tree};
+ghost use Rattle.lola_parse.specs.declared.symbol.Language.TheVariants.{Design};
 ghost use Rattle.lola_parse.specs.Design.{SpellsSource, OneModule, Begun, Ports, Directed, Group, port_of, way_of, Declarations, MoreConstants, Constant, Registers, RegisterRow, MoreVariables, VariableRow, VariableKind, local_of};
 ghost use Rattle.lola_parse.specs.Behind.{GroupsBehind, DeclaredRead, declared_of};
 ghost use Rattle.lola_parse.specs.MayEnd.{Sole, Before, NoName, DeclarationsEnd};
 ghost use Rattle.lola_parse.specs.Read.{IsWant, IsWhole, IsMade, Anywhere};
+ghost use Rattle.lola_parse.specs.Long.{LongWithin, NeverLong};
 
 use crate::cursor::Cursor;
 use crate::fault::Fault;
@@ -18,6 +20,7 @@ use std::alloc::Global;
 pub(crate) fn source<'a>(alloc: Global, here: Cursor<'a>) -> Result<Source, Fault>
     ensures ok { IfOk result (λ tree. SpellsSource here.entry (source_tree tree)) }
     ensures whole { (tree : SourceTree) → SpellsSource here.entry tree → IsMade source_tree tree result }
+    ensures long { IfErr result (LongWithin Design here.entry) }
 {
     let (first, mut behind) = module(alloc, here)?;
     let mut modules = Vec::new(alloc);
@@ -37,6 +40,7 @@ fn module<'a>(alloc: Global, here: Cursor<'a>) -> Result<(Module, Cursor<'a>), F
     ensures shorter { IfOk result (λ read. length read.1 < length here.entry) }
     ensures ok { IfOk result (λ read. OneModule here.entry (module_tree read.0) read.1) }
     ensures whole { IsWhole module_tree (OneModule here.entry) Anywhere result }
+    ensures long { IfErr result (LongWithin Design here.entry) }
 {
     let (title, behind) = name(alloc, here.behind_module()?)?;
     let (ports, behind) = ports(alloc, behind.behind_open_paren()?)?;
@@ -66,6 +70,7 @@ fn begun<'a>(alloc: Global, here: Cursor<'a>) -> Result<(Vec<Stmt>, Cursor<'a>),
     ensures shorter { IfOk result (λ read. length read.1 ≤ length here.entry) }
     ensures ok { IfOk result (λ read. Begun here.entry (map stmt_tree read.0.items) read.1) }
     ensures whole { IsWhole (λ v. map stmt_tree v.items) (Begun here.entry) (Before Symbol.End) result }
+    ensures long { IfErr result (LongWithin Design here.entry) }
 {
     let next = here.next();
     match next.symbol {
@@ -79,6 +84,7 @@ fn ports<'a>(alloc: Global, here: Cursor<'a>) -> Result<(Vec<Port>, Cursor<'a>),
     ensures shorter { IfOk result (λ read. length read.1 ≤ length here.entry) }
     ensures ok { IfOk result (λ read. Ports here.entry read.0.items read.1) }
     ensures whole { IsWhole (λ v. v.items) (Ports here.entry) (Before Symbol.CloseParen) result }
+    ensures never { IfErr result NeverLong }
 {
     let next = here.next();
     match way(next.symbol) {
@@ -104,6 +110,7 @@ fn groups<'a>(alloc: Global, first: Way, here: Cursor<'a>) -> Result<(Vec<Port>,
     ensures shorter { IfOk result (λ read. length read.1 < length here.entry) }
     ensures ok { IfOk result (λ read. GroupsBehind first here.entry read.0.items read.1) }
     ensures whole { IsWhole (λ v. v.items) (GroupsBehind first here.entry) (Before Symbol.CloseParen) result }
+    ensures never { IfErr result NeverLong }
 {
     let mut current = first;
     let (mut ports, mut behind) = group(alloc, current, Vec::new(alloc), here)?;
@@ -145,6 +152,7 @@ fn group<'a>(
     ensures shorter { IfOk result (λ read. length read.1 < length here.entry) }
     ensures ok { IfOk result (λ read. Group way ports.items here.entry read.0.items read.1) }
     ensures whole { IsWhole (λ v. v.items) (Group way ports.items here.entry) Anywhere result }
+    ensures never { IfErr result NeverLong }
 {
     let (names, behind) = names(alloc, here)?;
     let (shape, behind) = shape(alloc, behind.behind_colon()?)?;
@@ -186,6 +194,7 @@ fn declarations<'a>(alloc: Global, here: Cursor<'a>) -> Result<(Declared, Cursor
     ensures shorter { IfOk result (λ read. length read.1 ≤ length here.entry) }
     ensures ok { IfOk result (λ read. Declarations [] [] here.entry read.0.consts.items read.0.locals.items read.1) }
     ensures whole { IsWhole declared_of (DeclaredRead here.entry) DeclarationsEnd result }
+    ensures never { IfErr result NeverLong }
 {
     let mut consts = Vec::new(alloc);
     let mut locals = Vec::new(alloc);
@@ -222,6 +231,7 @@ fn constants<'a>(
     ensures shorter { IfOk result (λ read. length read.1 ≤ length here.entry) }
     ensures ok { IfOk result (λ read. MoreConstants consts.items here.entry read.0.items read.1) }
     ensures whole { IsWhole (λ v. v.items) (MoreConstants consts.items here.entry) NoName result }
+    ensures never { IfErr result NeverLong }
 {
     let mut consts = consts;
     let mut behind = here;
@@ -242,6 +252,7 @@ fn constant<'a>(alloc: Global, here: Cursor<'a>) -> Result<(Const, Cursor<'a>), 
     ensures shorter { IfOk result (λ read. length read.1 < length here.entry) }
     ensures ok { IfOk result (λ read. Constant here.entry read.0 read.1) }
     ensures whole { IsWhole (λ c. c) (Constant here.entry) Anywhere result }
+    ensures never { IfErr result NeverLong }
 {
     let (named, behind) = name(alloc, here)?;
     let behind = behind.behind_assign()?;
@@ -274,6 +285,7 @@ fn registers<'a>(
     ensures shorter { IfOk result (λ read. length read.1 < length here.entry) }
     ensures ok { IfOk result (λ read. Registers locals.items here.entry read.0.items read.1) }
     ensures whole { IsWhole (λ v. v.items) (Registers locals.items here.entry) NoName result }
+    ensures never { IfErr result NeverLong }
 {
     let (clock, behind) = name(alloc, here.behind_open_paren()?)?;
     let (mut locals, mut behind) = register_row(
@@ -304,6 +316,7 @@ fn register_row<'a>(
     ensures shorter { IfOk result (λ read. length read.1 < length here.entry) }
     ensures ok { IfOk result (λ read. RegisterRow clock.now locals.items here.entry read.0.items read.1) }
     ensures whole { IsWhole (λ v. v.items) (RegisterRow clock.now locals.items here.entry) Anywhere result }
+    ensures never { IfErr result NeverLong }
 {
     let (names, behind) = names(alloc, here)?;
     let (shape, behind) = shape(alloc, behind.behind_colon()?)?;
@@ -325,6 +338,7 @@ fn variables<'a>(
     ensures shorter { IfOk result (λ read. length read.1 ≤ length here.entry) }
     ensures ok { IfOk result (λ read. MoreVariables locals.items here.entry read.0.items read.1) }
     ensures whole { IsWhole (λ v. v.items) (MoreVariables locals.items here.entry) NoName result }
+    ensures never { IfErr result NeverLong }
 {
     let mut locals = locals;
     let mut behind = here;
@@ -349,6 +363,7 @@ fn variable_row<'a>(
     ensures shorter { IfOk result (λ read. length read.1 < length here.entry) }
     ensures ok { IfOk result (λ read. VariableRow locals.items here.entry read.0.items read.1) }
     ensures whole { IsWhole (λ v. v.items) (VariableRow locals.items here.entry) Anywhere result }
+    ensures never { IfErr result NeverLong }
 {
     let (names, behind) = names(alloc, here)?;
     let (kind, behind) = variable_kind(alloc, behind.behind_colon()?)?;
@@ -362,6 +377,7 @@ fn variable_kind<'a>(alloc: Global, here: Cursor<'a>) -> Result<(LocalKind, Curs
     ensures shorter { IfOk result (λ read. length read.1 < length here.entry) }
     ensures ok { IfOk result (λ read. VariableKind here.entry read.0 read.1) }
     ensures whole { IsWhole (λ k. k) (VariableKind here.entry) Anywhere result }
+    ensures never { IfErr result NeverLong }
 {
     match here.next().symbol {
         Symbol::Name => {

@@ -1,10 +1,11 @@
 ghost use Rattle.std.specs.Prelude.{ℕ, ◌<◌, ◌≤◌, ◌^◌, length, IfOk, IfErr, ◌≡◌, ◌≢◌};
-ghost use Rattle.std.specs.Prelude.{List};
+ghost use Rattle.std.specs.Prelude.{List, drop};
 ghost use Rattle.lola_scan.specs.declared.token.Token.{Token as Scanned};
 ghost use Rattle.lola_scan.specs.Tokens.{Spells};
 ghost use Rattle.lola_parse.specs.Symbols.{AreIn, items_of};
 ghost use Rattle.lola_parse.specs.Design.{SpellsSource, Reads};
 ghost use Rattle.lola_parse.specs.Read.{IsWant, IsParsed, ReadsTo};
+ghost use Rattle.lola_parse.specs.Long.{BeginsTooLong, IsTooLong, LongSays, LongPlaced};
 ghost use Rattle.lola_tree.specs.Tree.{Tree, tree, SourceTree, source_tree};
 
 use crate::cursor::Cursor;
@@ -42,6 +43,7 @@ pub fn parse(alloc: Global, text: &[u8], tokens: &[Token]) -> Result<Source, Par
     requires lie_within { AreIn text.now tokens.now }
     ensures ok { IfOk result (λ tree. SpellsSource (items_of Language.Design text.now tokens.now) (source_tree tree)) }
     ensures none { IfErr result (λ error. error ≢ ParseError.Memory → (tree : SourceTree) → SpellsSource (items_of Language.Design text.now tokens.now) tree → ⊥) }
+    ensures long { IfErr result (LongSays (IsTooLong Language.Design (items_of Language.Design text.now tokens.now))) }
 {
     match source(alloc, Cursor::new(Language::Design, text, tokens)) {
         Ok(tree) => Ok(tree),
@@ -66,6 +68,7 @@ pub fn parse_expr(
     requires from_in { from ≤ length tokens.now }
     ensures ok { IfOk result (λ read. Reads Language.Design text.now tokens.now from (tree read.0) read.1) }
     ensures whole { (e : Tree) (n : ℕ) → ReadsTo Language.Design text.now tokens.now from e n → IsParsed tree e n result }
+    ensures long { IfErr result (LongSays (BeginsTooLong Language.Design (items_of Language.Design text.now (drop from tokens.now)))) }
 {
     expr_from(alloc, Language::Design, text, tokens, from)
 }
@@ -83,6 +86,7 @@ pub fn parse_table_expr(
     requires from_in { from ≤ length tokens.now }
     ensures ok { IfOk result (λ read. Reads Language.Table text.now tokens.now from (tree read.0) read.1) }
     ensures whole { (e : Tree) (n : ℕ) → ReadsTo Language.Table text.now tokens.now from e n → IsParsed tree e n result }
+    ensures long { IfErr result (LongSays (BeginsTooLong Language.Table (items_of Language.Table text.now (drop from tokens.now)))) }
 {
     expr_from(alloc, Language::Table, text, tokens, from)
 }
@@ -100,6 +104,7 @@ fn expr_from(
     requires from_in { from ≤ length tokens.now }
     ensures ok { IfOk result (λ read. Reads language text.now tokens.now from (tree read.0) read.1) }
     ensures whole { (e : Tree) (n : ℕ) → ReadsTo language text.now tokens.now from e n → IsParsed tree e n result }
+    ensures long { IfErr result (LongSays (BeginsTooLong language (items_of language text.now (drop from tokens.now)))) }
 {
     let (_, rest) = tokens.split_at(from);
     match outermost(alloc, language, Cursor::new(language, text, rest)) {
@@ -111,7 +116,8 @@ fn expr_from(
 /// The answer for a fault, with its place in the text.
 fn placed(text: &[u8], tokens: &[Token], fault: Fault) -> ParseError
     requires { length text.now < 2 ^ 32 }
-    ensures { IsWant fault → result ≡ ParseError.Memory }
+    ensures want { IsWant fault → result ≡ ParseError.Memory }
+    ensures long { LongSays (LongPlaced text.now tokens.now fault) result }
 {
     match fault {
         Fault::Syntax { left } => ParseError::Syntax {
@@ -127,6 +133,7 @@ fn placed(text: &[u8], tokens: &[Token], fault: Fault) -> ParseError
 /// The place of the token from which on so many are left, or the text's length.
 fn place(text: &[u8], tokens: &[Token], left: usize) -> u32
     requires { length text.now < 2 ^ 32 }
+    ensures { LongPlaced text.now tokens.now (Fault.Long left) result }
 {
     match tokens.get(tokens.len().saturating_sub(left)) {
         Some(token) => token.from,

@@ -1,8 +1,9 @@
-ghost use Rattle.std.specs.Prelude.{ℕ, ◌≡◌, ◌<◌, ◌≤◌, length, IfOk};
+ghost use Rattle.std.specs.Prelude.{ℕ, ◌≡◌, ◌<◌, ◌≤◌, length, IfOk, IfErr};
 ghost use Rattle.lola_parse.specs.Design.{NameList, Shaped};
 ghost use Rattle.lola_parse.specs.Behind.{ShapeBehind, VectorsBehind, CountedShape};
 ghost use Rattle.lola_parse.specs.MayEnd.{Before};
 ghost use Rattle.lola_parse.specs.Read.{IsWhole, Anywhere};
+ghost use Rattle.lola_parse.specs.Long.{NeverLong};
 
 use crate::cursor::Cursor;
 use crate::fault::Fault;
@@ -18,6 +19,7 @@ pub(crate) fn names<'a>(alloc: Global, here: Cursor<'a>) -> Result<(Vec<Named>, 
     ensures shorter { IfOk result (λ read. length read.1 < length here.entry) }
     ensures ok { IfOk result (λ read. NameList here.entry read.0.items read.1) }
     ensures whole { IsWhole (λ v. v.items) (NameList here.entry) (Before Symbol.Colon) result }
+    ensures never { IfErr result NeverLong }
 {
     let (first, mut behind) = name(alloc, here)?;
     let mut names = Vec::new(alloc);
@@ -42,6 +44,7 @@ pub fn shape<'a>(alloc: Global, here: Cursor<'a>) -> Result<(Shape, Cursor<'a>),
     ensures shorter { IfOk result (λ read. length read.1 < length here.entry) }
     ensures ok { IfOk result (λ read. Shaped here.entry read.0 read.1) }
     ensures whole { IsWhole (λ t. t) (Shaped here.entry) Anywhere result }
+    ensures never { IfErr result NeverLong }
 {
     let next = here.next();
     match next.symbol {
@@ -58,6 +61,7 @@ fn counted_shape<'a>(alloc: Global, here: Cursor<'a>) -> Result<(Shape, Cursor<'
     ensures shorter { IfOk result (λ read. length read.1 < length here.entry) }
     ensures ok { IfOk result (λ read. ShapeBehind here.entry read.0 read.1) }
     ensures whole { IsWhole (λ t. t) (CountedShape here.entry) Anywhere result }
+    ensures never { IfErr result NeverLong }
 {
     let (count, behind) = count(alloc, Language::Design, here)?;
     let behind = behind.behind_close_bracket()?;
@@ -80,6 +84,7 @@ fn bit_array<'a>(
     ensures shorter { IfOk result (λ read. length read.1 < length here.entry) }
     ensures ok { IfOk result (λ read. VectorsBehind number here.entry read.0 read.1) }
     ensures whole { IsWhole (λ t. t) (VectorsBehind number here.entry) Anywhere result }
+    ensures never { IfErr result NeverLong }
 {
     let (width, behind) = count(alloc, Language::Design, here)?;
     let behind = behind.behind_close_bracket()?.behind_bit()?;

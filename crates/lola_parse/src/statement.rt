@@ -1,10 +1,11 @@
-ghost use Rattle.std.specs.Prelude.{ℕ, ◌<◌, ◌≤◌, length, IfOk, map};
+ghost use Rattle.std.specs.Prelude.{ℕ, ◌<◌, ◌≤◌, length, IfOk, IfErr, map};
 ghost use Rattle.lola_tree.specs.Tree.{stmt_tree, actual_tree, place_tree};
 ghost use Rattle.lola_parse.specs.Grammar.{Names};
 ghost use Rattle.lola_parse.specs.Design.{Argument, Statement, Optional, Body};
 ghost use Rattle.lola_parse.specs.Behind.{StatementBehind, AssignedBehind, PlacedBehind, CalledBehind, ArgumentsBehind, PadBehind, NamedStatement, NameRead};
 ghost use Rattle.lola_parse.specs.MayEnd.{Before, StatementEnds};
 ghost use Rattle.lola_parse.specs.Read.{IsWhole, Anywhere, Stops};
+ghost use Rattle.lola_parse.specs.Long.{LongWithin, NeverLong};
 
 use crate::cursor::Cursor;
 use crate::expression::outermost;
@@ -19,6 +20,7 @@ pub(crate) fn name<'a>(alloc: Global, here: Cursor<'a>) -> Result<(Named, Cursor
     ensures shorter { IfOk result (λ read. length read.1 < length here.entry) }
     ensures ok { IfOk result (λ read. Names read.0.name read.0.at here.entry read.1) }
     ensures whole { IsWhole (λ n. n) (NameRead here.entry) Anywhere result }
+    ensures never { IfErr result NeverLong }
 {
     let next = here.next();
     match next.symbol {
@@ -35,6 +37,7 @@ pub(crate) fn statement<'a>(alloc: Global, here: Cursor<'a>) -> Result<(Stmt, Cu
     ensures shorter { IfOk result (λ read. length read.1 < length here.entry) }
     ensures ok { IfOk result (λ read. Statement here.entry (stmt_tree read.0) read.1) }
     ensures whole { IsWhole stmt_tree (Statement here.entry) Stops result }
+    ensures long { IfErr result (LongWithin Language.Design here.entry) }
 {
     let next = here.next();
     match next.symbol {
@@ -56,6 +59,7 @@ fn named_statement<'a>(
     ensures shorter { IfOk result (λ read. length read.1 < length here.entry) }
     ensures ok { IfOk result (λ read. StatementBehind target.name target.at here.entry (stmt_tree read.0) read.1) }
     ensures whole { IsWhole stmt_tree (NamedStatement target.name target.at here.entry) Stops result }
+    ensures long { IfErr result (LongWithin Language.Design here.entry) }
 {
     let next = here.next();
     match next.symbol {
@@ -77,6 +81,7 @@ fn assigned<'a>(
     ensures shorter { IfOk result (λ read. length read.1 < length here.entry) }
     ensures ok { IfOk result (λ read. AssignedBehind target.name (place_tree place) target.at equals here.entry (stmt_tree read.0) read.1) }
     ensures whole { IsWhole stmt_tree (AssignedBehind target.name (place_tree place) target.at equals here.entry) Stops result }
+    ensures long { IfErr result (LongWithin Language.Design here.entry) }
 {
     let (value, behind) = outermost(alloc, Language::Design, here)?;
     let Named { name, at } = target;
@@ -102,6 +107,7 @@ fn placed<'a>(
     ensures shorter { IfOk result (λ read. length read.1 < length here.entry) }
     ensures ok { IfOk result (λ read. PlacedBehind target.name target.at at here.entry (stmt_tree read.0) read.1) }
     ensures whole { IsWhole stmt_tree (PlacedBehind target.name target.at at here.entry) Stops result }
+    ensures long { IfErr result (LongWithin Language.Design here.entry) }
 {
     let (value, behind) = outermost(alloc, Language::Design, here)?;
     let behind = behind.behind_close_bracket()?;
@@ -123,6 +129,7 @@ fn called<'a>(alloc: Global, target: Named, here: Cursor<'a>) -> Result<(Stmt, C
     ensures shorter { IfOk result (λ read. length read.1 < length here.entry) }
     ensures ok { IfOk result (λ read. CalledBehind target.name target.at here.entry (stmt_tree read.0) read.1) }
     ensures whole { IsWhole stmt_tree (CalledBehind target.name target.at here.entry) Anywhere result }
+    ensures long { IfErr result (LongWithin Language.Design here.entry) }
 {
     let (args, behind) = arguments(alloc, here)?;
     let behind = behind.behind_close_paren()?;
@@ -142,6 +149,7 @@ fn arguments<'a>(alloc: Global, here: Cursor<'a>) -> Result<(Vec<Actual>, Cursor
     ensures shorter { IfOk result (λ read. length read.1 < length here.entry) }
     ensures ok { IfOk result (λ read. ArgumentsBehind here.entry (map actual_tree read.0.items) read.1) }
     ensures whole { IsWhole (λ v. map actual_tree v.items) (ArgumentsBehind here.entry) (Before Symbol.CloseParen) result }
+    ensures long { IfErr result (LongWithin Language.Design here.entry) }
 {
     let (first, mut behind) = argument(alloc, here)?;
     let mut args = Vec::new(alloc);
@@ -164,6 +172,7 @@ fn argument<'a>(alloc: Global, here: Cursor<'a>) -> Result<(Actual, Cursor<'a>),
     ensures shorter { IfOk result (λ read. length read.1 < length here.entry) }
     ensures ok { IfOk result (λ read. Argument here.entry (actual_tree read.0) read.1) }
     ensures whole { IsWhole actual_tree (Argument here.entry) Stops result }
+    ensures long { IfErr result (LongWithin Language.Design here.entry) }
 {
     let at = here.at();
     let (value, behind) = outermost(alloc, Language::Design, here)?;
@@ -175,6 +184,7 @@ fn pad<'a>(alloc: Global, at: u32, here: Cursor<'a>) -> Result<(Stmt, Cursor<'a>
     ensures shorter { IfOk result (λ read. length read.1 < length here.entry) }
     ensures ok { IfOk result (λ read. PadBehind at here.entry (stmt_tree read.0) read.1) }
     ensures whole { IsWhole stmt_tree (PadBehind at here.entry) Anywhere result }
+    ensures long { IfErr result (LongWithin Language.Design here.entry) }
 {
     let (io, behind) = name(alloc, here.behind_open_paren()?)?;
     let (inner, behind) = name(alloc, behind.behind_comma()?)?;
@@ -198,6 +208,7 @@ pub(crate) fn body<'a>(alloc: Global, here: Cursor<'a>) -> Result<(Vec<Stmt>, Cu
     ensures shorter { IfOk result (λ read. length read.1 ≤ length here.entry) }
     ensures ok { IfOk result (λ read. Body here.entry (map stmt_tree read.0.items) read.1) }
     ensures whole { IsWhole (λ v. map stmt_tree v.items) (Body here.entry) (Before Symbol.End) result }
+    ensures long { IfErr result (LongWithin Language.Design here.entry) }
 {
     let (mut body, mut behind) = with_statement(alloc, Vec::new(alloc), here)?;
     'body: loop {
@@ -222,6 +233,7 @@ fn with_statement<'a>(
     ensures shorter { IfOk result (λ read. length read.1 ≤ length here.entry) }
     ensures ok { IfOk result (λ read. Optional (map stmt_tree body.items) here.entry (map stmt_tree read.0.items) read.1) }
     ensures whole { IsWhole (λ v. map stmt_tree v.items) (Optional (map stmt_tree body.items) here.entry) StatementEnds result }
+    ensures long { IfErr result (LongWithin Language.Design here.entry) }
 {
     match here.next().symbol {
         Symbol::Name | Symbol::Ts => {

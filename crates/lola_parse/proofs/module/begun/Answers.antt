@@ -6,6 +6,8 @@ use Rattle.lola_parse.specs.Design.{no_body, begun}
 use Rattle.lola_tree.specs.Tree.{stmt_tree}
 use Rattle.lola_parse.proofs.Whole.{not_front}
 use Rattle.lola_parse.proofs.Modules.{begun_none}
+use Rattle.lola_parse.proofs.Suffix.{past}
+use Rattle.lola_parse.proofs.Endings.{long_in}
 use Rattle.lola_parse.proofs.module.begun.Goals as goal
 
 pub returns-in-Begin-clause-ok : goal.returns-in-Begin-clause-ok
@@ -20,3 +22,7 @@ returns-in_default-clause-ok c = no_body (ap (map stmt_tree) c.new.ensures.items
 
 pub returns-in_default-clause-whole : goal.returns-in_default-clause-whole
 returns-in_default-clause-whole c = λ body rest read ends. let same = begun_none read (not_front c.args.here c.next-next.result c.next-next.ensures c.in_default.not-Begin) in (ap (map stmt_tree) c.new.ensures.items ∙ same.0, same.1)
+
+pub returns-in-Begin-clause-long : goal.returns-in-Begin-clause-long
+returns-in-Begin-clause-long c =
+    long_in c.body.result (past (stands c.args.here c.next-next.result s.Begin c.next-next.ensures c.in-Begin.is refl)) c.body.ensures.long

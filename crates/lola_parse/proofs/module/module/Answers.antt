@@ -3,6 +3,8 @@ use Rattle.lola_parse.specs.Design.{one_module}
 use Rattle.lola_parse.proofs.Whole.{handed_on}
 use Rattle.lola_parse.proofs.Steps.{passed, was_read, refuses, by_read}
 use Rattle.lola_parse.proofs.Modules.{module_step}
+use Rattle.lola_parse.proofs.Suffix.{past_name, ◌then◌}
+use Rattle.lola_parse.proofs.Endings.{passes_ends, ports_ends, declarations_ends, long_on}
 use Rattle.lola_parse.proofs.module.module.Goals as goal
 
 pub returns-clause-ok : goal.returns-clause-ok
@@ -47,3 +49,11 @@ returns-in_err-behind-2-clause-whole c = λ m rest d k. let starts = passed _ (m
 
 pub returns-clause-whole : goal.returns-clause-whole
 returns-clause-whole c = λ m rest d k. let starts = passed _ (module_step d) c.in_ok-behind_module.ensures.whole in let title = was_read _ starts c.in_ok-title.ensures.whole in let opened = passed _ title c.in_ok-behind_open_paren.ensures.whole in let ports = was_read _ opened c.in_ok-ports.ensures.whole in let closed = passed _ ports c.in_ok-behind_close_paren.ensures.whole in let semicolon = passed _ closed c.in_ok-behind.ensures.whole in let declared = was_read _ semicolon c.in_ok-declared.ensures.whole in let body = was_read _ declared c.in_ok-body.ensures.whole in let end = passed _ body c.in_ok-behind_end.ensures.whole in let ends = was_read _ end c.in_ok-ends.ensures.whole in let dot = passed _ ends c.in_ok-behind-2.ensures.whole in (rw (c.of.ensures, c.of-2.ensures, c.of-3.ensures, c.of-4.ensures) dot.1, dot.0)
+
+pub returns-in_err-body-clause-long : goal.returns-in_err-body-clause-long
+returns-in_err-body-clause-long c =
+    long_on _ _
+    (passes_ends c.in_ok-behind_module.ensures.ok then past_name c.in_ok-title.ensures.ok then passes_ends c.in_ok-behind_open_paren.ensures.ok then
+    ports_ends c.in_ok-ports.ensures.ok then passes_ends c.in_ok-behind_close_paren.ensures.ok then passes_ends c.in_ok-behind.ensures.ok then
+    declarations_ends c.in_ok-declared.ensures.ok)
+    c.from_residual-in_err-body.ensures.1 c.in_err-body.ensures.long

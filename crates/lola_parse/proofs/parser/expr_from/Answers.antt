@@ -5,6 +5,8 @@ use Rattle.lola_parse.specs.Design.{Outermost}
 use Rattle.lola_parse.specs.Read.{IsParsed}
 use Rattle.lola_parse.proofs.Suffix.{reads, items_long}
 use Rattle.lola_parse.proofs.Symbols.{AreIn-drop}
+use Rattle.lola_parse.specs.Long.{LongFront}
+use Rattle.lola_parse.proofs.TooLong.{from_long}
 use Rattle.lola_parse.proofs.parser.expr_from.Goals as goal
 
 pub new-requires : goal.new-requires
@@ -43,4 +45,11 @@ returns-in-Err-clause-whole c =
     let rest = items_of l text (drop n c.args.tokens.now) in
     let from = c.new.ensures ∙ ap (items_of l text) c.split_at.ensures.back in
     let want = c.in-Err.ensures.whole e rest (subst (λ all. Outermost l all e rest) (sym from) read.reads.outermost) read.ends in
-    subst (λ error. IsParsed tree e n (Err error)) (sym (c.placed.ensures want)) tt
+    subst (λ error. IsParsed tree e n (Err error)) (sym (c.placed.ensures.want want)) tt
+
+pub returns-in-Err-clause-long : goal.returns-in-Err-clause-long
+returns-in-Err-clause-long c =
+    let l = c.args.language in
+    let from = c.new.ensures ∙ ap (items_of l c.args.text.now) c.split_at.ensures.back in
+    from_long l c.args.text.now c.args.tokens.now c.args.from c.in-Err.fault c.placed.result (subst (λ all. LongFront l all c.in-Err.fault) from c.in-Err.ensures.long)
+    c.placed.ensures.long

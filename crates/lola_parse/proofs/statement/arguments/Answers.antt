@@ -7,6 +7,8 @@ use Rattle.lola_parse.specs.Design.{MoreArguments, no_argument, one_argument}
 use Rattle.lola_parse.proofs.Whole.{handed_on, not_front}
 use Rattle.lola_parse.proofs.Steps.{was_read, by_read}
 use Rattle.lola_parse.proofs.Statements.{arguments_step, more_arguments_step, more_arguments_over}
+use Rattle.lola_parse.proofs.Suffix.{past, ◌then◌}
+use Rattle.lola_parse.proofs.Endings.{arguments_behind_ends, long_on}
 use Rattle.lola_parse.proofs.statement.arguments.Goals as goal
 
 pub more-init : goal.more-init
@@ -60,3 +62,10 @@ returns-in_err-arg-in-Comma-clause-whole c = λ args rest read ends. let w = mor
 
 pub returns-in_default-clause-whole : goal.returns-in_default-clause-whole
 returns-in_default-clause-whole c = λ args rest read ends. more_arguments_over (c.more.invariant.whole args rest read ends) (not_front c.more.behind c.next-next.result c.next-next.ensures c.in_default.not-Comma)
+
+pub returns-in_err-arg-in-Comma-clause-long : goal.returns-in_err-arg-in-Comma-clause-long
+returns-in_err-arg-in-Comma-clause-long c =
+    long_on _ _
+    (arguments_behind_ends (c.more.invariant.reads _ _ (no_argument refl refl)) then
+    past (stands c.more.behind c.next-next.result s.Comma c.next-next.ensures c.in-Comma.is refl))
+    c.from_residual-in_err-arg-in-Comma.ensures.1 c.in_err-arg-in-Comma.ensures.long

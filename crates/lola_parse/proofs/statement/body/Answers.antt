@@ -8,6 +8,8 @@ use Rattle.lola_parse.proofs.Steps.{was_read, by_read}
 use Rattle.lola_parse.specs.Design.{MoreStatements}
 use Rattle.lola_parse.specs.MayEnd.{Sole, StatementEnds}
 use Rattle.lola_parse.proofs.Statements.{body_step, more_statements_step, more_statements_over}
+use Rattle.lola_parse.proofs.Suffix.{past, ◌then◌}
+use Rattle.lola_parse.proofs.Endings.{body_ends, long_on}
 use Rattle.lola_parse.proofs.statement.body.Goals as goal
 
 pub body-init : goal.body-init
@@ -55,3 +57,10 @@ returns-in_err-longer-in-Semicolon-clause-whole c = λ body rest read ends. let 
 
 pub returns-in_default-clause-whole : goal.returns-in_default-clause-whole
 returns-in_default-clause-whole c = λ body rest read ends. more_statements_over (c.body.invariant.whole body rest read ends) (not_front c.body.behind c.next-next.result c.next-next.ensures c.in_default.not-Semicolon)
+
+pub returns-in_err-longer-in-Semicolon-clause-long : goal.returns-in_err-longer-in-Semicolon-clause-long
+returns-in_err-longer-in-Semicolon-clause-long c =
+    long_on _ _
+    (body_ends (c.body.invariant.reads _ _ (no_statement refl refl)) then
+    past (stands c.body.behind c.next-next.result s.Semicolon c.next-next.ensures c.in-Semicolon.is refl))
+    c.from_residual-in_err-longer-in-Semicolon.ensures.1 c.in_err-longer-in-Semicolon.ensures.long

@@ -5,6 +5,8 @@ use Rattle.lola_parse.proofs.Fronts.{stands}
 use Rattle.lola_parse.specs.Design.{assigned, placed, called}
 use Rattle.lola_parse.proofs.Statements.{named_value, named_place, named_arguments, named_none}
 use Rattle.lola_parse.proofs.Whole.{not_front}
+use Rattle.lola_parse.proofs.Suffix.{past}
+use Rattle.lola_parse.proofs.Endings.{long_in}
 use Rattle.lola_parse.proofs.statement.named_statement.Goals as goal
 
 pub returns-in-Assign-clause-ok : goal.returns-in-Assign-clause-ok
@@ -37,3 +39,15 @@ returns-in-OpenParen-clause-whole c = λ t rest read ends. c.called.ensures.whol
 
 pub returns-in_default-clause-whole : goal.returns-in_default-clause-whole
 returns-in_default-clause-whole c = λ t rest read ends. absurd (named_none read (not_front c.args.here c.next-next.result c.next-next.ensures c.in_default.not-Assign) (not_front c.args.here c.next-next.result c.next-next.ensures c.in_default.not-OpenBracket) (not_front c.args.here c.next-next.result c.next-next.ensures c.in_default.not-OpenParen))
+
+pub returns-in-Assign-clause-long : goal.returns-in-Assign-clause-long
+returns-in-Assign-clause-long c =
+    long_in c.assigned.result (past (stands c.args.here c.next-next.result s.Assign c.next-next.ensures c.in-Assign.is refl)) c.assigned.ensures.long
+
+pub returns-in-OpenBracket-clause-long : goal.returns-in-OpenBracket-clause-long
+returns-in-OpenBracket-clause-long c =
+    long_in c.placed.result (past (stands c.args.here c.next-next.result s.OpenBracket c.next-next.ensures c.in-OpenBracket.is refl)) c.placed.ensures.long
+
+pub returns-in-OpenParen-clause-long : goal.returns-in-OpenParen-clause-long
+returns-in-OpenParen-clause-long c =
+    long_in c.called.result (past (stands c.args.here c.next-next.result s.OpenParen c.next-next.ensures c.in-OpenParen.is refl)) c.called.ensures.long

@@ -3,6 +3,8 @@ use Rattle.lola_tree.specs.Tree.{actual_tree}
 use Rattle.lola_parse.proofs.Statements.{pad_step}
 use Rattle.lola_parse.proofs.Whole.{handed_on}
 use Rattle.lola_parse.proofs.Steps.{passed, was_read, refuses, by_read}
+use Rattle.lola_parse.proofs.Suffix.{past_name, ◌then◌}
+use Rattle.lola_parse.proofs.Endings.{passes_ends, argument_ends, long_on}
 use Rattle.lola_parse.proofs.statement.pad.Goals as goal
 
 pub returns-clause-ok : goal.returns-clause-ok
@@ -61,3 +63,18 @@ returns-in_err-behind-clause-whole c = λ t rest h ends. let opened = passed _ (
 
 pub returns-clause-whole : goal.returns-clause-whole
 returns-clause-whole c = λ t rest h ends. let opened = passed _ (pad_step h) c.in_ok-behind_open_paren.ensures.whole in let io = was_read _ opened c.in_ok-io.ensures.whole in let comma = passed _ io c.in_ok-behind_comma.ensures.whole in let inner = was_read _ comma c.in_ok-inner.ensures.whole in let comma2 = passed _ inner c.in_ok-behind_comma-2.ensures.whole in let value = was_read _ comma2 c.in_ok-value.ensures.whole in let comma3 = passed _ value c.in_ok-behind_comma-3.ensures.whole in let release = was_read _ comma3 c.in_ok-release.ensures.whole in let close = passed _ release c.in_ok-behind.ensures.whole in (close.1, close.0)
+
+pub returns-in_err-value-clause-long : goal.returns-in_err-value-clause-long
+returns-in_err-value-clause-long c =
+    long_on _ _
+    (passes_ends c.in_ok-behind_open_paren.ensures.ok then past_name c.in_ok-io.ensures.ok then passes_ends c.in_ok-behind_comma.ensures.ok then
+    past_name c.in_ok-inner.ensures.ok then passes_ends c.in_ok-behind_comma-2.ensures.ok)
+    c.from_residual-in_err-value.ensures.1 c.in_err-value.ensures.long
+
+pub returns-in_err-release-clause-long : goal.returns-in_err-release-clause-long
+returns-in_err-release-clause-long c =
+    long_on _ _
+    (passes_ends c.in_ok-behind_open_paren.ensures.ok then past_name c.in_ok-io.ensures.ok then passes_ends c.in_ok-behind_comma.ensures.ok then
+    past_name c.in_ok-inner.ensures.ok then passes_ends c.in_ok-behind_comma-2.ensures.ok then
+    argument_ends c.in_ok-value.ensures.ok then passes_ends c.in_ok-behind_comma-3.ensures.ok)
+    c.from_residual-in_err-release.ensures.1 c.in_err-release.ensures.long

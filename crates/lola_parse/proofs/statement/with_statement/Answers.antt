@@ -3,8 +3,8 @@ use Rattle.lola_parse.proofs.Designs.{map_more}
 use Rattle.lola_tree.specs.Tree.{stmt_tree}
 use Rattle.lola_parse.specs.Design.{empty, one_statement}
 use Rattle.lola_parse.proofs.Statements.{optional_statement, optional_none, front_in}
-use Rattle.lola_parse.proofs.Whole.{next_front, not_front}
-use Rattle.lola_parse.proofs.Steps.{was_read}
+use Rattle.lola_parse.proofs.Whole.{handed_on, next_front, not_front}
+use Rattle.lola_parse.proofs.Steps.{was_read, by_read}
 use Rattle.lola_parse.proofs.statement.with_statement.Goals as goal
 
 pub returns-in_ok-push-in-Name-clause-ok : goal.returns-in_ok-push-in-Name-clause-ok
@@ -23,3 +23,9 @@ returns-in_ok-push-in-Name-clause-whole c = λ body rest read ends. let w = opti
 
 pub returns-in_default-clause-whole : goal.returns-in_default-clause-whole
 returns-in_default-clause-whole c = λ body rest read ends. optional_none read (not_front c.args.here c.next.result c.next.ensures c.in_default.not-Name) (not_front c.args.here c.next.result c.next.ensures c.in_default.not-Ts)
+
+pub returns-in_err-stmt-in-Name-clause-whole : goal.returns-in_err-stmt-in-Name-clause-whole
+returns-in_err-stmt-in-Name-clause-whole c =
+    λ body rest read ends.
+    handed_on _ _ rest _ _ c.from_residual.ensures.1
+    (by_read (optional_statement read ends (front_in (next_front c.args.here c.next.result c.next.ensures) c.in-Name.is)) c.in_err-stmt-in-Name.ensures.whole)
