@@ -3,85 +3,21 @@ use Rattle.std.proofs.Common.{◌≡◌, ℕ, true, false, List, [], ◌∷◌, 
 use Rattle.std.proofs.lemmas.List.{append_assoc}
 use Rattle.std.specs.Result.{IsErrAnd, IfErr}
 use Rattle.lola_tree.specs.declared.named.Count.TheVariants as count
-use Rattle.lola_tree.specs.Tree.{Tree, number}
 use Rattle.lola_parse.specs.declared.symbol.Symbol.{Symbol}
 use Rattle.lola_parse.specs.declared.symbol.Symbol.TheVariants as s
 use Rattle.lola_parse.specs.declared.symbol.Language.{Language}
 use Rattle.lola_parse.specs.declared.fault.Fault.{Fault}
 use Rattle.lola_parse.specs.declared.fault.Fault.TheVariants as fault
 use Rattle.lola_parse.specs.Symbols.{Item}
-use Rattle.lola_parse.specs.Grammar.{Passes, Counted, fixed, no_word, Reference, plain, once, Expression, one_rel, one_sum, Term, Factor, numbered}
+use Rattle.lola_parse.specs.Grammar.{Passes, Counted, fixed, no_word, Reference, plain, once, Expression, Factor, numbered}
 use Rattle.lola_parse.specs.Behind.{PathBehind}
 use Rattle.lola_parse.specs.Long.{Any, AnyTerms, AnyFactors, AnyParts, AnyTimes, Begins, StopsBy, FailsBy}
-use Rattle.lola_parse.proofs.Local.{Rule, Local, Then, no_terms, no_factors, no_parts, sum_of, term_of}
+use Rattle.lola_parse.proofs.Local.{Rule, Local, Then, no_terms, no_factors, no_parts, rel_of, sum_alone, sum_of, term_of}
 
 -- a run with which a rule is whole
-abbrev pub IsRun : Rule → List Item → Type 0
-IsRun R run = (x : List Item) → R (run ++ x) x
-
--- a token of a symbol
-abbrev pub mark : Symbol → Item
-mark symbol = record { symbol = symbol; is_word = false; spelled = []; at = 0 }
-
-pub passes_run : (symbol : Symbol) → IsRun (Passes symbol) (mark symbol ∷ [])
-passes_run symbol x = (0, record { is_word = false; spelled = []; splits = refl })
-
--- a number without a width
-abbrev pub digit : Symbol
-digit = s.Number 0 None
-
-pub count_run : {l : Language} → IsRun (Any (Counted l)) (mark digit ∷ [])
-count_run x = (_, fixed 0 0 record { is_word = false; spelled = []; splits = refl } refl)
-
-pub factor_run : {l : Language} → IsRun (Any (Factor l)) (mark digit ∷ [])
-factor_run x = (_, numbered record { is_word = false; spelled = []; splits = refl } refl)
-
-pub term_run : {l : Language} → IsRun (Any (Term l)) (mark digit ∷ [])
-term_run x = term_of _ _ record { mid = x; first = factor_run x; second = no_factors x }
-
-pub expression_run : {l : Language} → IsRun (Any (Expression l)) (mark digit ∷ [])
-expression_run x =
-    let made = sum_of _ _ record { mid = x; first = term_run x; second = no_terms x } in
-    (made.0, one_rel (one_sum made.1))
-
-pub no_terms_run : {l : Language} → IsRun (AnyTerms l) []
-no_terms_run x = no_terms x
-
-pub no_factors_run : {l : Language} → IsRun (AnyFactors l) []
-no_factors_run x = no_factors x
-
-pub no_parts_run : {l : Language} → IsRun (AnyParts l) []
-no_parts_run x = no_parts x
-
-pub no_times_run : {l : Language} → IsRun (AnyTimes l) []
-no_times_run x = λ at. (count.Fixed 1 at, once refl refl)
-
-pub name_run : {l : Language} → IsRun (Any (Reference l)) (mark s.Name ∷ [])
-name_run x = (_, plain [] 0 record { is_word = false; splits = refl } refl)
-
--- a name as a word
-abbrev word : Item
-word = record { symbol = s.Name; is_word = true; spelled = []; at = 0 }
-
--- some run with which a rule is whole
 pub record Runs (R : Rule) : Type 0 where
   pub run : List Item
-  pub whole : IsRun R run
-
-pub runs_by : {R : Rule} (run : List Item) → IsRun R run → Runs R
-runs_by run whole = record { run = run; whole = whole }
-
-pub path_runs : Runs (Any PathBehind)
-path_runs =
-    record {
-      run = word ∷ [];
-      whole = λ x. ([] ∷ [], record {
-        word = [];
-        behind = x;
-        first = record { symbol = s.Name; at = 0; no_number = refl; splits = refl };
-        more = no_word refl refl;
-      });
-    }
+  pub whole : (x : List Item) → R (run ++ x) x
 
 -- one run and then another
 infixr 20 ◌then◌
@@ -92,32 +28,54 @@ pub ◌then◌ : {A B : Rule} → Runs A → Runs B → Runs (Then A B)
       whole = λ x. subst (λ all. Then A B all x) (sym (append_assoc a.run b.run x)) record { mid = b.run ++ x; first = a.whole (b.run ++ x); second = b.whole x };
     }
 
-pub closes_run : (symbol : Symbol) → Runs (Passes symbol)
-closes_run symbol = record { run = mark symbol ∷ []; whole = passes_run symbol }
+pub runs_as : {A B : Rule} → ((a r : List Item) → A a r → B a r) → Runs A → Runs B
+runs_as make r = record { run = r.run; whole = λ x. make (r.run ++ x) x (r.whole x) }
 
-pub expression_runs : {l : Language} → Runs (Any (Expression l))
-expression_runs = record { run = mark digit ∷ []; whole = expression_run }
+-- the shortest runs: a symbol, a number without a width, a name, a word, or nothing
+pub symbol_runs : (symbol : Symbol) → Runs (Passes symbol)
+symbol_runs symbol =
+    record {
+      run = record { symbol = symbol; is_word = false; spelled = []; at = 0 } ∷ [];
+      whole = λ x. (0, record { is_word = false; spelled = []; splits = refl });
+    }
 
 pub count_runs : {l : Language} → Runs (Any (Counted l))
-count_runs = record { run = mark digit ∷ []; whole = count_run }
+count_runs = runs_as (λ a r h. (_, fixed 0 h.0 h.1 refl)) (symbol_runs (s.Number 0 None))
 
 pub factor_runs : {l : Language} → Runs (Any (Factor l))
-factor_runs = record { run = mark digit ∷ []; whole = factor_run }
+factor_runs = runs_as (λ a r h. (_, numbered h.1 refl)) (symbol_runs (s.Number 0 None))
 
 pub reference_runs : {l : Language} → Runs (Any (Reference l))
-reference_runs = record { run = mark s.Name ∷ []; whole = name_run }
+reference_runs =
+    record {
+      run = record { symbol = s.Name; is_word = true; spelled = []; at = 0 } ∷ [];
+      whole = λ x. (_, plain [] 0 record { is_word = true; splits = refl } refl);
+    }
+
+pub path_runs : Runs (Any PathBehind)
+path_runs =
+    record {
+      run = record { symbol = s.Name; is_word = true; spelled = []; at = 0 } ∷ [];
+      whole = λ x. (
+        [] ∷ [],
+        record { word = []; behind = x; first = record { symbol = s.Name; at = 0; no_number = refl; splits = refl }; more = no_word refl refl },
+      );
+    }
 
 pub no_terms_runs : {l : Language} → Runs (AnyTerms l)
-no_terms_runs = record { run = []; whole = no_terms_run }
+no_terms_runs = record { run = []; whole = no_terms }
 
 pub no_factors_runs : {l : Language} → Runs (AnyFactors l)
-no_factors_runs = record { run = []; whole = no_factors_run }
+no_factors_runs = record { run = []; whole = no_factors }
 
 pub no_parts_runs : {l : Language} → Runs (AnyParts l)
-no_parts_runs = record { run = []; whole = no_parts_run }
+no_parts_runs = record { run = []; whole = no_parts }
 
 pub no_times_runs : {l : Language} → Runs (AnyTimes l)
-no_times_runs = record { run = []; whole = no_times_run }
+no_times_runs = record { run = []; whole = λ x at. (count.Fixed 1 at, once refl refl) }
+
+pub expression_runs : {l : Language} → Runs (Any (Expression l))
+expression_runs = runs_as rel_of (runs_as sum_alone (runs_as sum_of (runs_as term_of (factor_runs then no_factors_runs) then no_terms_runs)))
 
 -- no token is read, and the rule may begin
 pub begins_here : {R : Rule} {all : List Item} → Runs R → Begins R all (length all)
@@ -196,7 +154,7 @@ fails_on_short {A = A} {mid = mid} floor f r make h p = fails_on floor f r make 
 -- of a symbol that doesn't stand there
 pub fails_at : {X : Type 0} {symbol : Symbol} {B : Rule} {all mid : List Item} (floor : ℕ) (f : Fault) (r : Result X Fault) →
     ((left : ℕ) → Begins (Passes symbol) mid left → Begins B all left) → IsErrAnd r (λ g. g ≡ f) → f ≡ fault.Syntax (length mid) → IfErr r (FailsBy B floor all)
-fails_at {symbol = symbol} {mid = mid} floor f r make h is = fails_on floor f r make h (fails_here (Passes symbol) floor mid f (closes_run symbol) is)
+fails_at {symbol = symbol} {mid = mid} floor f r make h is = fails_on floor f r make h (fails_here (Passes symbol) floor mid f (symbol_runs symbol) is)
 
 pub stops_on : {X : Type 0} {A B : Rule} {all mid : List Item} (f : Fault) (r : Result X Fault) → ((left : ℕ) → Begins A mid left → Begins B all left) →
     IsErrAnd r (λ g. g ≡ f) → StopsBy A mid f → IfErr r (StopsBy B all)
@@ -204,7 +162,7 @@ stops_on {B = B} {all = all} f r make h p = hands_on (StopsBy B all) f r h (stop
 
 pub stops_at : {X : Type 0} {symbol : Symbol} {B : Rule} {all mid : List Item} (f : Fault) (r : Result X Fault) →
     ((left : ℕ) → Begins (Passes symbol) mid left → Begins B all left) → IsErrAnd r (λ g. g ≡ f) → f ≡ fault.Syntax (length mid) → IfErr r (StopsBy B all)
-stops_at {symbol = symbol} {mid = mid} f r make h is = stops_on f r make h (stops_here (Passes symbol) mid f (closes_run symbol) is)
+stops_at {symbol = symbol} {mid = mid} f r make h is = stops_on f r make h (stops_here (Passes symbol) mid f (symbol_runs symbol) is)
 
 -- of a call whose answer is the answer
 pub fails_in : {X : Type 0} {A B : Rule} {all mid : List Item} (floor : ℕ) (r : Result X Fault) → ((left : ℕ) → Begins A mid left → Begins B all left) →

@@ -1,5 +1,5 @@
 -- What stands behind a rule of designs is an end of what it is read from.
-use Rattle.std.proofs.Common.{◌≡◌, ℕ, List, [], ◌∷◌, ◌++◌, take, Result, Ok, Err, refl, sym, ap, ◌∙◌}
+use Rattle.std.proofs.Common.{◌≡◌, List, ◌++◌, take, Result, Ok, Err, sym, ap, ◌∙◌}
 use Rattle.std.proofs.lemmas.List.{append_assoc, take-append-drop}
 use Rattle.std.specs.Result.{IsErrAnd, IfErr}
 use Rattle.lola_tree.specs.declared.named.Named.{Named}

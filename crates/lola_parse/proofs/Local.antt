@@ -1,6 +1,6 @@
 -- A rule that stands at the front doesn't look at what stands behind it: the tokens that it reads are a
 -- run with which it stands at the front of any tokens.
-use Rattle.std.proofs.Common.{◌≡◌, ℕ, true, List, [], ◌∷◌, ◌++◌, Option, None, Some, refl, sym, ap, subst, ◌∙◌}
+use Rattle.std.proofs.Common.{◌≡◌, ℕ, true, List, [], ◌∷◌, ◌++◌, Some, refl, sym, ap, subst, ◌∙◌}
 use Rattle.std.proofs.lemmas.List.{append_assoc}
 use Rattle.lola_tree.specs.declared.named.Count.{Count}
 use Rattle.lola_tree.specs.declared.named.Count.TheVariants as count
@@ -14,9 +14,9 @@ use Rattle.lola_parse.specs.declared.symbol.Language.{Language}
 use Rattle.lola_parse.specs.declared.symbol.Language.TheVariants.{Table}
 use Rattle.lola_parse.specs.Symbols.{Item}
 use Rattle.lola_parse.specs.Grammar.{Stands, Passes, Names, Words, Counted, fixed, constant, Path, no_word, one_word, Reference, plain, source, Times, once, repeated, Expression, one_rel, chosen, Rel, one_sum, related, Sum, sum, Terms, no_term, one_term, Term, term, Factors, no_factor, one_factor, Factor, negated, numbered, named, one_bit, sliced, indexed, joined, shifted, nested, OnePart, part, MoreParts, no_more, one_more, with_part, place_of, relation_of, adding_of, shift_of}
-use Rattle.lola_parse.specs.Behind.{ChoiceBehind, NegationBehind, NestedBehind, ShiftBehind, ConcatBehind, IndexBehind, BitBehind, SliceBehind, PathBehind, PartRead}
+use Rattle.lola_parse.specs.Behind.{NestedBehind, ShiftBehind, ConcatBehind, IndexBehind, BitBehind, SliceBehind, PathBehind, PartRead}
 use Rattle.lola_parse.specs.Long.{Any, AnyTerms, AnyFactors, AnyParts, AnyTimes, AnyChoice}
-use Rattle.lola_parse.proofs.Expressions.{choice_read, negation_read, nested_read, concat_read, shift_read, bit_read, slice_read, index_read}
+use Rattle.lola_parse.proofs.Expressions.{choice_read, nested_read, concat_read, shift_read, bit_read, slice_read, index_read}
 
 -- how much a rule says of lists
 abbrev pub Rule : Type 1

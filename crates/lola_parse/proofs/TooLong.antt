@@ -1,5 +1,5 @@
 -- An expression that is too long: from the faults of the descent to the place of its 513th token.
-use Rattle.std.proofs.Common.{◌≡◌, ℕ, zero, suc, ◌+◌, ◌-◌, ◌<◌, ◌≤◌, List, [], ◌∷◌, ◌++◌, length, take, drop, refl, sym, ap, subst, ◌∙◌, arith, length-drop}
+use Rattle.std.proofs.Common.{◌≡◌, ℕ, zero, suc, ◌+◌, ◌-◌, ◌<◌, ◌≤◌, List, [], ◌∷◌, ◌++◌, length, take, drop, refl, sym, ap, subst, ◌∙◌, arith}
 use Rattle.std.proofs.lemmas.List.{append_assoc, length-append, drop-drop, take-append-drop}
 use Rattle.std.proofs.Math.Seq.{drop-append_seam}
 use Rattle.lola_scan.specs.declared.token.Token.{Token}
@@ -12,7 +12,7 @@ use Rattle.lola_parse.specs.declared.parser.ParseError.{ParseError}
 use Rattle.lola_parse.specs.declared.parser.ParseError.TheVariants as error
 use Rattle.lola_parse.specs.Symbols.{Item, items_of}
 use Rattle.lola_parse.specs.Grammar.{Expression, place_of}
-use Rattle.lola_parse.specs.Long.{BeginsTooLong, IsTooLong, Any, Begins, FailsBy, LongAt, LongFront, LongBehind, LongWithin, LongSays, LongPlaced}
+use Rattle.lola_parse.specs.Long.{BeginsTooLong, IsTooLong, Any, Begins, FailsBy, LongAt, LongFront, LongWithin, LongSays, LongPlaced}
 use Rattle.lola_parse.proofs.Suffix.{items_drop, items_long}
 use Rattle.lola_parse.proofs.Local.{expression_local}
 

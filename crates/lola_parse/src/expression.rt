@@ -25,8 +25,10 @@ use std::alloc::Global;
 const LIMIT: usize = 512;
 
 /// An outermost expression at the front, and what stands behind it. It has at most 512 tokens; where
-/// the 513th would go on, the answer is Long. Where an expression of at most 512 tokens stands there
-/// and ends where no token goes on, it is the one that is answered, and no fault comes but Memory.
+/// the 513th would go on, the answer is Long. That comes only where 513 tokens stand there with which
+/// some expression begins, and counts the tokens from the last of them on. Where an expression of at
+/// most 512 tokens stands there and ends where no token goes on, it is the one that is answered, and no
+/// fault comes but Memory.
 pub fn outermost<'a>(
     alloc: Global,
     language: Language,

@@ -25,7 +25,7 @@ pub enum ParseError {
     /// is, ends too early.
     #[error("syntax at {at}")]
     Syntax { at: u32 },
-    /// The 513th token of an outermost expression.
+    /// The 513th token of an outermost expression: some expression begins with the tokens up to it.
     #[error("expression too long at {at}")]
     Long { at: u32 },
     /// Want of memory.

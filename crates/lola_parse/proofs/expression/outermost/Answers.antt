@@ -1,4 +1,4 @@
-use Rattle.std.proofs.Common.{◌≡◌, ◌-◌, ◌<◌, length, ap, ◌∙◌, arith}
+use Rattle.std.proofs.Common.{◌≡◌, ◌-◌, length, ap, ◌∙◌, arith}
 use Rattle.lola_parse.proofs.TooLong.{long_at, begins_whole, front_long}
 use Rattle.lola_parse.proofs.expression.outermost.Goals as goal
 

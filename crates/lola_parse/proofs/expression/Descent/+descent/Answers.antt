@@ -13,7 +13,7 @@ use Rattle.lola_parse.proofs.Refer.{referred_begins, referred_alone, referred_bi
 use Rattle.lola_parse.specs.Grammar.{Factor}
 use Rattle.lola_parse.specs.Long.{Any}
 use Rattle.lola_parse.proofs.Local.{rel_of, chosen_of, choice_of, sum_alone, related_of, sum_of, terms_of, term_of, factors_of, negated_of, nested_of, paren_of, shift_of_parts, shifted_of, concat_of_parts, brace_of, parts_of, part_of, named_of, one_bit_of, sliced_of, indexed_of, index_of_parts, stands_local, passes_local, reference_local, expression_local, rel_local, sum_local, term_local, factor_local, part_local, parts_local}
-use Rattle.lola_parse.proofs.Begun.{◌then◌, closes_run, expression_runs, factor_runs, no_terms_runs, no_factors_runs, no_parts_runs, no_times_runs, begins_here, begins_as, begins_then, begins_before, fails_here, fails_on, fails_on_short, fails_at, fails_in, fails_in_short}
+use Rattle.lola_parse.proofs.Begun.{◌then◌, symbol_runs, expression_runs, factor_runs, no_terms_runs, no_factors_runs, no_parts_runs, no_times_runs, begins_here, begins_as, begins_then, begins_before, fails_here, fails_on, fails_on_short, fails_at, fails_in, fails_in_short}
 use Rattle.lola_parse.proofs.expression.Descent.+descent.Goals as goal
 
 pub expr-returns-in-Arrow-clause-ok : goal.expr-returns-in-Arrow-clause-ok
@@ -322,7 +322,7 @@ expr-returns-in-Arrow-clause-fails t c =
 
 pub choice-returns-in_err-yes-clause-fails : goal.choice-returns-in_err-yes-clause-fails
 choice-returns-in_err-yes-clause-fails t c =
-    fails_on c.args.self.floor _ _ (λ left b. begins_as choice_of (begins_before (closes_run s.Colon then expression_runs) b)) c.from_residual.ensures.1 c.in_err-yes.ensures.fails
+    fails_on c.args.self.floor _ _ (λ left b. begins_as choice_of (begins_before (symbol_runs s.Colon then expression_runs) b)) c.from_residual.ensures.1 c.in_err-yes.ensures.fails
 
 pub choice-returns-in_err-behind-clause-fails : goal.choice-returns-in_err-behind-clause-fails
 choice-returns-in_err-behind-clause-fails t c =
@@ -410,7 +410,7 @@ factor-returns-in_default-clause-fails t c =
 
 pub nested-returns-in_err-inner-clause-fails : goal.nested-returns-in_err-inner-clause-fails
 nested-returns-in_err-inner-clause-fails t c =
-    fails_on c.args.self.floor _ _ (λ left b. begins_as nested_of (begins_before (closes_run s.CloseParen) b)) c.from_residual.ensures.1 c.in_err-inner.ensures.fails
+    fails_on c.args.self.floor _ _ (λ left b. begins_as nested_of (begins_before (symbol_runs s.CloseParen) b)) c.from_residual.ensures.1 c.in_err-inner.ensures.fails
 
 pub nested-returns-in_err-behind_close_paren-clause-fails : goal.nested-returns-in_err-behind_close_paren-clause-fails
 nested-returns-in_err-behind_close_paren-clause-fails t c =
@@ -418,19 +418,19 @@ nested-returns-in_err-behind_close_paren-clause-fails t c =
 
 pub shift-returns-in_err-behind-clause-fails : goal.shift-returns-in_err-behind-clause-fails
 shift-returns-in_err-behind-clause-fails t c =
-    fails_at c.args.self.floor _ _ (λ left b. begins_as shift_of_parts (begins_before (expression_runs then (closes_run s.Comma then (expression_runs then closes_run s.CloseParen))) b)) c.from_residual.ensures.1 c.in_err-behind.ensures.fails
+    fails_at c.args.self.floor _ _ (λ left b. begins_as shift_of_parts (begins_before (expression_runs then (symbol_runs s.Comma then (expression_runs then symbol_runs s.CloseParen))) b)) c.from_residual.ensures.1 c.in_err-behind.ensures.fails
 
 pub shift-returns-in_err-value-clause-fails : goal.shift-returns-in_err-value-clause-fails
 shift-returns-in_err-value-clause-fails t c =
-    fails_on c.args.self.floor _ _ (λ left b. begins_as shift_of_parts (begins_then (passes_local c.in_ok-behind.ensures.ok) (begins_before (closes_run s.Comma then (expression_runs then closes_run s.CloseParen)) b))) c.from_residual-in_err-value.ensures.1 c.in_err-value.ensures.fails
+    fails_on c.args.self.floor _ _ (λ left b. begins_as shift_of_parts (begins_then (passes_local c.in_ok-behind.ensures.ok) (begins_before (symbol_runs s.Comma then (expression_runs then symbol_runs s.CloseParen)) b))) c.from_residual-in_err-value.ensures.1 c.in_err-value.ensures.fails
 
 pub shift-returns-in_err-behind-2-clause-fails : goal.shift-returns-in_err-behind-2-clause-fails
 shift-returns-in_err-behind-2-clause-fails t c =
-    fails_at c.args.self.floor _ _ (λ left b. begins_as shift_of_parts (begins_then (passes_local c.in_ok-behind.ensures.ok) (begins_then (expression_local c.in_ok-value.ensures.ok) (begins_before (expression_runs then closes_run s.CloseParen) b)))) c.from_residual-in_err-behind-2.ensures.1 c.in_err-behind-2.ensures.fails
+    fails_at c.args.self.floor _ _ (λ left b. begins_as shift_of_parts (begins_then (passes_local c.in_ok-behind.ensures.ok) (begins_then (expression_local c.in_ok-value.ensures.ok) (begins_before (expression_runs then symbol_runs s.CloseParen) b)))) c.from_residual-in_err-behind-2.ensures.1 c.in_err-behind-2.ensures.fails
 
 pub shift-returns-in_err-by-clause-fails : goal.shift-returns-in_err-by-clause-fails
 shift-returns-in_err-by-clause-fails t c =
-    fails_on c.args.self.floor _ _ (λ left b. begins_as shift_of_parts (begins_then (passes_local c.in_ok-behind.ensures.ok) (begins_then (expression_local c.in_ok-value.ensures.ok) (begins_then (passes_local c.in_ok-behind-2.ensures.ok) (begins_before (closes_run s.CloseParen) b))))) c.from_residual-in_err-by.ensures.1 c.in_err-by.ensures.fails
+    fails_on c.args.self.floor _ _ (λ left b. begins_as shift_of_parts (begins_then (passes_local c.in_ok-behind.ensures.ok) (begins_then (expression_local c.in_ok-value.ensures.ok) (begins_then (passes_local c.in_ok-behind-2.ensures.ok) (begins_before (symbol_runs s.CloseParen) b))))) c.from_residual-in_err-by.ensures.1 c.in_err-by.ensures.fails
 
 pub shift-returns-in_err-behind-3-clause-fails : goal.shift-returns-in_err-behind-3-clause-fails
 shift-returns-in_err-behind-3-clause-fails t c =
@@ -438,11 +438,11 @@ shift-returns-in_err-behind-3-clause-fails t c =
 
 pub concat-returns-in_err-first-clause-fails : goal.concat-returns-in_err-first-clause-fails
 concat-returns-in_err-first-clause-fails t c =
-    fails_on c.args.self.floor _ _ (λ left b. begins_as concat_of_parts (begins_before (no_parts_runs then closes_run s.CloseBrace) b)) c.from_residual.ensures.1 c.in_err-first.ensures.fails
+    fails_on c.args.self.floor _ _ (λ left b. begins_as concat_of_parts (begins_before (no_parts_runs then symbol_runs s.CloseBrace) b)) c.from_residual.ensures.1 c.in_err-first.ensures.fails
 
 pub concat-returns-in_err-parts-clause-fails : goal.concat-returns-in_err-parts-clause-fails
 concat-returns-in_err-parts-clause-fails t c =
-    fails_on c.args.self.floor _ _ (λ left b. begins_as concat_of_parts (begins_then (part_local c.in_ok-first.ensures.ok) (begins_before (closes_run s.CloseBrace) b))) c.from_residual-in_err-parts.ensures.1 c.in_err-parts.ensures.fails
+    fails_on c.args.self.floor _ _ (λ left b. begins_as concat_of_parts (begins_then (part_local c.in_ok-first.ensures.ok) (begins_before (symbol_runs s.CloseBrace) b))) c.from_residual-in_err-parts.ensures.1 c.in_err-parts.ensures.fails
 
 pub concat-returns-in_err-behind-clause-fails : goal.concat-returns-in_err-behind-clause-fails
 concat-returns-in_err-behind-clause-fails t c =
@@ -482,7 +482,7 @@ reference-returns-else-begins_slice-clause-fails t c =
 
 pub index-returns-in_err-place-clause-fails : goal.index-returns-in_err-place-clause-fails
 index-returns-in_err-place-clause-fails t c =
-    fails_on c.args.self.floor _ _ (λ left b. begins_as index_of_parts (begins_before (closes_run s.CloseBracket) b)) c.from_residual.ensures.1 c.in_err-place.ensures.fails
+    fails_on c.args.self.floor _ _ (λ left b. begins_as index_of_parts (begins_before (symbol_runs s.CloseBracket) b)) c.from_residual.ensures.1 c.in_err-place.ensures.fails
 
 pub index-returns-in_err-behind-clause-fails : goal.index-returns-in_err-behind-clause-fails
 index-returns-in_err-behind-clause-fails t c =
