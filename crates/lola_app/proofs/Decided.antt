@@ -15,7 +15,7 @@ use Rattle.lola_app.specs.Headline.{Resets, Commutes}
 use Rattle.lola_app.specs.Listing.{named_of}
 use Rattle.lola_app.specs.Made.{IsDesignOf, IsTableOf}
 use Rattle.lola_app.specs.Obligations.{obligations, AllHold}
-use Rattle.lola_app.specs.Reply.{Line, Outcome, accepted, failed, wrong_words, source_not_built, table_not_built, unread, too_long, no_memory}
+use Rattle.lola_app.specs.Reply.{Line, Outcome, accepted, failed, wrong_words, source_refused, long_expression, table_not_built, unread, too_long, no_memory}
 use Rattle.lola_app.specs.Serve.{IsYes, IsNo, IsDecided, lines_of}
 use Rattle.lola_app.specs.Small.{Interface, interface_of, IsSmallTable}
 use Rattle.lola_app.specs.Tried.{bit_lines, printed_names, AllPass, OneFails, IsTried}
@@ -101,7 +101,8 @@ module _ (source table : List ℕ) (design : Design) (claim : Claim) (made : IsD
   decided (failed name lines) tried = no name lines tried
   decided no_memory tried = tt
   decided wrong_words tried = absurd tried
-  decided source_not_built tried = absurd tried
+  decided (source_refused fault) tried = absurd tried
+  decided (long_expression at) tried = absurd tried
   decided table_not_built tried = absurd tried
   decided (unread word) tried = absurd tried
   decided (too_long word) tried = absurd tried

@@ -6,6 +6,7 @@ pub mod ThreeItems
 mod ByRow
 mod Printed
 mod Readings
+mod Refusals
 mod ScopeMeans
 mod SetRows
 mod ShownStates

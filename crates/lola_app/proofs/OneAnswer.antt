@@ -4,7 +4,10 @@ use Rattle.std.specs.List.{AllByRecursion}
 use Rattle.std.proofs.lemmas.Bool.{cases_lt}
 use Rattle.lola_tree.specs.Tree.{SourceTree}
 use Rattle.lola_tree.specs.Signals.{values_of, root_registers}
-use Rattle.lola_scan.specs.Tokens.{HasOneReading}
+use Rattle.lola_scan.specs.declared.token.Token.{Token}
+use Rattle.lola_scan.specs.declared.token.ScanError.{ScanError}
+use Rattle.lola_scan.specs.declared.token.ScanError.TheVariants as scan
+use Rattle.lola_scan.specs.Tokens.{Fails, HasOneReading}
 use Rattle.lola_parse.specs.declared.symbol.Language.TheVariants.{Design, Table}
 use Rattle.lola_parse.specs.Symbols.{Item, items_of}
 use Rattle.lola_parse.specs.Design.{SpellsSource}
@@ -13,10 +16,13 @@ use Rattle.tab_tree.specs.Step.{inside_classes}
 use Rattle.tab_read.specs.Grammar.{SpellsTable}
 use Rattle.lola_app.specs.Accepts.{Accepts, IsSpelled, AcceptsTable}
 use Rattle.lola_app.specs.Obligations.{Obligation, cover, reset, ends, obligations, obligation_name, Valuation, HoldsAt, IsViolatedAt, HoldsAlways, free_inputs, free_names, free_values, ComesBefore, IsLeastViolation}
-use Rattle.lola_app.specs.Reply.{Line, Outcome, accepted, failed, wrong_words, source_not_built, table_not_built, unread, too_long, no_memory}
-use Rattle.lola_app.specs.Serve.{IsYes, IsNo, IsTableRefused, IsDecided, lines_of}
+use Rattle.lola_app.specs.declared.fault.SourceFault.{SourceFault}
+use Rattle.lola_app.specs.declared.fault.SourceFault.TheVariants.{BadByte, NumberTooLarge, OpenComment, Syntax, NotBuilt}
+use Rattle.lola_app.specs.Refused.{HasNoTree, IsOutside, IsRefused}
+use Rattle.lola_app.specs.Reply.{Line, Outcome, accepted, failed, wrong_words, source_refused, long_expression, table_not_built, unread, too_long, no_memory}
+use Rattle.lola_app.specs.Serve.{IsYes, IsNo, IsTableRefused, IsDecided, IsUngrammatical, lines_of}
 use Rattle.lola_app.proofs.Leaves.{length_map}
-use Rattle.lola_app.proofs.Readings.{source_of, table_of}
+use Rattle.lola_app.proofs.Readings.{source_of, small_of, table_of}
 
 -- the laws that one answer stands on
 abbrev pub OneReadingLaw : Type 0
@@ -96,6 +102,13 @@ least_is_one S T o w u least least' = elim (compared (free_values S T o w) (free
   | inr (inr behind) ↦ absurd (not_both S T o u (least.least u least'.suits behind) least'.violated)
 ]
 
+-- a fault of a text, as it is told
+abbrev named_as : ScanError → SourceFault
+named_as (scan.BadByte at) = BadByte at
+named_as (scan.NumberTooLarge at) = NumberTooLarge at
+named_as (scan.OpenComment at) = OpenComment at
+named_as scan.Memory = NotBuilt
+
 module _ (reading : OneReadingLaw) (tree : OneTreeLaw) (table : OneTableLaw) (s t : List ℕ) where
   same_pair : (S R : SourceTree) (T U : TableTree) → Accepts s S → Accepts s R → AcceptsTable S t T → AcceptsTable R t U → (S ≡ R) × (T ≡ U)
   same_pair S R T U one two three four = (one_source reading tree s S R one two, one_table reading table t T U three.spelled four.spelled)
@@ -137,32 +150,87 @@ module _ (reading : OneReadingLaw) (tree : OneTreeLaw) (table : OneTableLaw) (s 
   refused_none {S = S} {T = T} refused design fitting =
       refused.none T (subst (λ (R : SourceTree). AcceptsTable R t T) (one_source reading tree s S refused.S design refused.design) fitting)
 
-  pub one_answer_is : (a b : Outcome) → IsDecided s t a → IsDecided s t b → a ≢ no_memory → b ≢ no_memory → a ≡ b
-  one_answer_is (accepted m k) (accepted n l) one two p q = two_yes m n k l one two
+  -- why the text of the design gives none, and what is said of it: its first fault, by name; no tree of its
+  -- tokens, by one of the two outcomes that say so; or a tree outside the forms that are built
+  data SourceCause (a : Outcome) : Type 0 where
+    by_fault : (error : ScanError) → Fails 0 s error → a ≡ source_refused (named_as error) → SourceCause a
+    by_grammar : HasNoTree s → IsUngrammatical a → SourceCause a
+    by_form : IsOutside s → a ≡ source_refused NotBuilt → SourceCause a
+
+  cause_of : (fault : SourceFault) → IsRefused s fault → SourceCause (source_refused fault)
+  cause_of (BadByte at) is = by_fault (scan.BadByte at) is refl
+  cause_of (NumberTooLarge at) is = by_fault (scan.NumberTooLarge at) is refl
+  cause_of (OpenComment at) is = by_fault (scan.OpenComment at) is refl
+  cause_of (Syntax at) is = by_grammar is tt
+  cause_of NotBuilt is = by_form is refl
+
+  cause_of_long : (at : ℕ) → HasNoTree s → SourceCause (long_expression at)
+  cause_of_long at is = by_grammar is tt
+
+  -- a text with such a cause isn't accepted
+  not_accepted : {a : Outcome} {S : SourceTree} → SourceCause a → Accepts s S → ⊥
+  not_accepted {S = S} (by_fault error fails is) accepts = HasOneReading.never_both (reading s) accepts.tokens error accepts.spells fails
+  not_accepted {S = S} (by_grammar none is) accepts = none.none S (source_of s none.tokens S (reading s) none.spells accepts)
+  not_accepted {S = S} (by_form outside is) accepts =
+      outside.large (small_of s outside.tokens S outside.S (reading s) tree outside.spells outside.spelled accepts)
+
+  -- tokens that spell a design don't spell none
+  spells_one : HasNoTree s → IsOutside s → ⊥
+  spells_one none outside =
+      none.none outside.S (subst (λ (ts : List Token). SpellsSource (items_of Design s ts) outside.S)
+      (HasOneReading.one_list (reading s) outside.tokens none.tokens outside.spells none.spells) outside.spelled)
+
+  -- so two causes are one, but for the two outcomes of grammar
+  one_cause : (a b : Outcome) → SourceCause a → SourceCause b → (a ≡ b) ⊎ (IsUngrammatical a × IsUngrammatical b)
+  one_cause a b (by_fault error fails is) (by_fault other fails' is') =
+      inl (is ∙ ap (λ (e : ScanError). source_refused (named_as e)) (HasOneReading.one_fault (reading s) error other fails fails') ∙ sym is')
+  one_cause a b (by_fault error fails is) (by_grammar none is') = absurd (HasOneReading.never_both (reading s) none.tokens error none.spells fails)
+  one_cause a b (by_fault error fails is) (by_form outside is') = absurd (HasOneReading.never_both (reading s) outside.tokens error outside.spells fails)
+  one_cause a b (by_grammar none is) (by_fault error fails is') = absurd (HasOneReading.never_both (reading s) none.tokens error none.spells fails)
+  one_cause a b (by_grammar none is) (by_grammar other is') = inr (is, is')
+  one_cause a b (by_grammar none is) (by_form outside is') = absurd (spells_one none outside)
+  one_cause a b (by_form outside is) (by_fault error fails is') = absurd (HasOneReading.never_both (reading s) outside.tokens error outside.spells fails)
+  one_cause a b (by_form outside is) (by_grammar none is') = absurd (spells_one none outside)
+  one_cause a b (by_form outside is) (by_form other is') = inl (is ∙ sym is')
+
+  pub one_answer_is : (a b : Outcome) → IsDecided s t a → IsDecided s t b → a ≢ no_memory → b ≢ no_memory → (a ≡ b) ⊎ (IsUngrammatical a × IsUngrammatical b)
+  one_answer_is (accepted m k) (accepted n l) one two p q = inl (two_yes m n k l one two)
   one_answer_is (accepted m k) (failed n l) one two p q = absurd (yes_and_no m k n l one two)
-  one_answer_is (accepted m k) source_not_built one two p q = absurd (two one.headline.S one.headline.design)
+  one_answer_is (accepted m k) (source_refused other) one two p q = absurd (not_accepted (cause_of other two) one.headline.design)
+  one_answer_is (accepted m k) (long_expression place) one two p q = absurd (not_accepted (cause_of_long place two) one.headline.design)
   one_answer_is (accepted m k) table_not_built one two p q = absurd (refused_none two one.headline.design one.headline.fitting)
   one_answer_is (accepted m k) wrong_words one two p q = absurd two
   one_answer_is (accepted m k) (unread word) one two p q = absurd two
   one_answer_is (accepted m k) (too_long word) one two p q = absurd two
   one_answer_is (failed m k) (accepted n l) one two p q = absurd (yes_and_no n l m k two one)
-  one_answer_is (failed m k) (failed n l) one two p q = two_no m n k l one two
-  one_answer_is (failed m k) source_not_built one two p q = absurd (two one.S one.design)
+  one_answer_is (failed m k) (failed n l) one two p q = inl (two_no m n k l one two)
+  one_answer_is (failed m k) (source_refused other) one two p q = absurd (not_accepted (cause_of other two) one.design)
+  one_answer_is (failed m k) (long_expression place) one two p q = absurd (not_accepted (cause_of_long place two) one.design)
   one_answer_is (failed m k) table_not_built one two p q = absurd (refused_none two one.design one.fitting)
   one_answer_is (failed m k) wrong_words one two p q = absurd two
   one_answer_is (failed m k) (unread word) one two p q = absurd two
   one_answer_is (failed m k) (too_long word) one two p q = absurd two
-  one_answer_is source_not_built (accepted n l) one two p q = absurd (one two.headline.S two.headline.design)
-  one_answer_is source_not_built (failed n l) one two p q = absurd (one two.S two.design)
-  one_answer_is source_not_built source_not_built one two p q = refl
-  one_answer_is source_not_built table_not_built one two p q = absurd (one two.S two.design)
-  one_answer_is source_not_built wrong_words one two p q = absurd two
-  one_answer_is source_not_built (unread word) one two p q = absurd two
-  one_answer_is source_not_built (too_long word) one two p q = absurd two
+  one_answer_is (source_refused fault) (accepted n l) one two p q = absurd (not_accepted (cause_of fault one) two.headline.design)
+  one_answer_is (source_refused fault) (failed n l) one two p q = absurd (not_accepted (cause_of fault one) two.design)
+  one_answer_is (source_refused fault) (source_refused other) one two p q = one_cause _ _ (cause_of fault one) (cause_of other two)
+  one_answer_is (source_refused fault) (long_expression place) one two p q = one_cause _ _ (cause_of fault one) (cause_of_long place two)
+  one_answer_is (source_refused fault) table_not_built one two p q = absurd (not_accepted (cause_of fault one) two.design)
+  one_answer_is (source_refused fault) wrong_words one two p q = absurd two
+  one_answer_is (source_refused fault) (unread word) one two p q = absurd two
+  one_answer_is (source_refused fault) (too_long word) one two p q = absurd two
+  one_answer_is (long_expression at) (accepted n l) one two p q = absurd (not_accepted (cause_of_long at one) two.headline.design)
+  one_answer_is (long_expression at) (failed n l) one two p q = absurd (not_accepted (cause_of_long at one) two.design)
+  one_answer_is (long_expression at) (source_refused other) one two p q = one_cause _ _ (cause_of_long at one) (cause_of other two)
+  one_answer_is (long_expression at) (long_expression place) one two p q = one_cause _ _ (cause_of_long at one) (cause_of_long place two)
+  one_answer_is (long_expression at) table_not_built one two p q = absurd (not_accepted (cause_of_long at one) two.design)
+  one_answer_is (long_expression at) wrong_words one two p q = absurd two
+  one_answer_is (long_expression at) (unread word) one two p q = absurd two
+  one_answer_is (long_expression at) (too_long word) one two p q = absurd two
   one_answer_is table_not_built (accepted n l) one two p q = absurd (refused_none one two.headline.design two.headline.fitting)
   one_answer_is table_not_built (failed n l) one two p q = absurd (refused_none one two.design two.fitting)
-  one_answer_is table_not_built source_not_built one two p q = absurd (two one.S one.design)
-  one_answer_is table_not_built table_not_built one two p q = refl
+  one_answer_is table_not_built (source_refused other) one two p q = absurd (not_accepted (cause_of other two) one.design)
+  one_answer_is table_not_built (long_expression place) one two p q = absurd (not_accepted (cause_of_long place two) one.design)
+  one_answer_is table_not_built table_not_built one two p q = inl refl
   one_answer_is table_not_built wrong_words one two p q = absurd two
   one_answer_is table_not_built (unread word) one two p q = absurd two
   one_answer_is table_not_built (too_long word) one two p q = absurd two
@@ -172,5 +240,6 @@ module _ (reading : OneReadingLaw) (tree : OneTreeLaw) (table : OneTableLaw) (s 
   one_answer_is (too_long word) b one two p q = absurd one
   one_answer_is (accepted m k) no_memory one two p q = absurd (q refl)
   one_answer_is (failed m k) no_memory one two p q = absurd (q refl)
-  one_answer_is source_not_built no_memory one two p q = absurd (q refl)
+  one_answer_is (source_refused fault) no_memory one two p q = absurd (q refl)
+  one_answer_is (long_expression at) no_memory one two p q = absurd (q refl)
   one_answer_is table_not_built no_memory one two p q = absurd (q refl)

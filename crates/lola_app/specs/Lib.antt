@@ -9,6 +9,7 @@ pub mod Made
 pub mod Naming
 pub mod Obligations
 pub mod Printing
+pub mod Refused
 pub mod Reply
 pub mod Scoping
 pub mod Serve

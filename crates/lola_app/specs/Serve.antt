@@ -11,12 +11,14 @@ use Rattle.lola_app.specs.Accepts.{Accepts, AcceptsTable}
 use Rattle.lola_app.specs.Headline.{Resets, Commutes}
 use Rattle.lola_app.specs.Obligations.{Obligation, obligations, obligation_name, Valuation, HoldsAlways, AllHold, free_names, free_values, IsLeastViolation}
 use Rattle.lola_port.specs.Outside.{Files, Counts, lookup, RoseAt, Rose, Same, Appended}
+use Rattle.lola_app.specs.declared.fault.SourceFault.TheVariants.{Syntax}
 use Rattle.lola_app.specs.declared.reply.Reply.{Reply}
 use Rattle.lola_app.specs.declared.reply.Reply.TheVariants.{Unread, TooLong, NoMemory}
 use Rattle.lola_app.specs.declared.status.Status.{Status}
 use Rattle.lola_app.specs.declared.status.Status.TheVariants as status
 use Rattle.lola_app.specs.Printing.{AppendedFront}
-use Rattle.lola_app.specs.Reply.{Line, Outcome, accepted, failed, wrong_words, source_not_built, table_not_built, unread, too_long, no_memory, status_of, text_of}
+use Rattle.lola_app.specs.Refused.{HasNoTree, IsRefused}
+use Rattle.lola_app.specs.Reply.{Line, Outcome, accepted, failed, wrong_words, source_refused, long_expression, table_not_built, unread, too_long, no_memory, status_of, text_of}
 
 -- the words are `decide` and the names of a design and of a table
 abbrev pub Decide : List (List ℕ) → List ℕ → List ℕ → Type 0
@@ -104,12 +106,20 @@ pub record IsTableRefused (source table : List ℕ) : Type 0 where
 abbrev pub IsDecided : List ℕ → List ℕ → Outcome → Type 0
 IsDecided source table (accepted obliged inside) = IsYes source table obliged inside
 IsDecided source table (failed name lines) = IsNo source table name lines
-IsDecided source table source_not_built = (S : SourceTree) → Accepts source S → ⊥
+IsDecided source table (source_refused fault) = IsRefused source fault
+IsDecided source table (long_expression at) = HasNoTree source
 IsDecided source table table_not_built = IsTableRefused source table
 IsDecided source table no_memory = Unit {0}
 IsDecided source table wrong_words = ⊥
 IsDecided source table (unread word) = ⊥
 IsDecided source table (too_long word) = ⊥
+
+-- the two outcomes that come where the tokens of the design spell none: a refusal for its grammar, and
+-- an expression that is too long. Which of them comes, and at what place, isn't settled by that alone
+abbrev pub IsUngrammatical : Outcome → Type 0
+IsUngrammatical (source_refused (Syntax at)) = Unit {0}
+IsUngrammatical (long_expression at) = Unit {0}
+IsUngrammatical outcome = ⊥
 
 -- both texts were asked for, no read of either failed, and this is what they lead to
 pub record IsAnswer (words : List (List ℕ)) (told : Option Files) (before now : Counts) (outcome : Outcome) : Type 0 where
@@ -128,7 +138,8 @@ Due words told before now (too_long word) = AskedFor words told word × IsTooLon
 Due words told before now no_memory = Unit {0}
 Due words told before now (accepted obliged inside) = IsAnswer words told before now (accepted obliged inside)
 Due words told before now (failed name lines) = IsAnswer words told before now (failed name lines)
-Due words told before now source_not_built = IsAnswer words told before now source_not_built
+Due words told before now (source_refused fault) = IsAnswer words told before now (source_refused fault)
+Due words told before now (long_expression at) = IsAnswer words told before now (long_expression at)
 Due words told before now table_not_built = IsAnswer words told before now table_not_built
 
 -- an outcome that names a word, or want of memory in its place

@@ -7,7 +7,7 @@ use Rattle.lola_app.specs.declared.obligation.Which.{Which}
 use Rattle.lola_app.specs.declared.obligation.Which.TheVariants as which
 use Rattle.lola_app.specs.Deciding.{PassesAlways, IsFirstFailing}
 use Rattle.lola_app.specs.Listing.{named_of, listed}
-use Rattle.lola_app.specs.Reply.{Line, Outcome, accepted, failed, wrong_words, source_not_built, table_not_built, unread, too_long, no_memory}
+use Rattle.lola_app.specs.Reply.{Line, Outcome, accepted, failed, wrong_words, source_refused, long_expression, table_not_built, unread, too_long, no_memory}
 
 -- the leaves that a cycle leaves free: the inputs but RESET, and the registers
 abbrev pub free_leaves : Claim → List (List ℕ)
@@ -50,7 +50,8 @@ IsTried claim (accepted obliged inside) = AllPass claim obliged inside
 IsTried claim (failed name lines) = OneFails claim name lines
 IsTried claim no_memory = Unit {0}
 IsTried claim wrong_words = ⊥
-IsTried claim source_not_built = ⊥
+IsTried claim (source_refused fault) = ⊥
+IsTried claim (long_expression at) = ⊥
 IsTried claim table_not_built = ⊥
 IsTried claim (unread word) = ⊥
 IsTried claim (too_long word) = ⊥

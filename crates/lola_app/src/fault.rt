@@ -1,7 +1,7 @@
 ghost use Rattle.std.specs.Prelude.{◌≡◌, ◌≢◌};
 ghost use Rattle.lola_app.specs.declared.fault.ReadError.TheVariants.{NotBuilt, Memory};
+ghost use Rattle.lola_app.specs.Refused.{scan_refusal, parse_refusal, elab_refusal};
 ghost use Rattle.lola_scan.specs.declared.token.ScanError.TheVariants as scan;
-ghost use Rattle.lola_parse.specs.declared.parser.ParseError.TheVariants as parse;
 ghost use Rattle.lola_elab.specs.declared.fault.ElabError.TheVariants as elab;
 ghost use Rattle.tab_read.specs.declared.fault.TableFault.TheVariants as table;
 
@@ -11,7 +11,77 @@ use lola_scan::ScanError;
 use std::alloc::{AllocError, AllocFailed};
 use tab_read::TableFault;
 
-/// Why texts give no claim: a text is outside the forms that are built, or memory is wanting.
+/// Why the text of a design is refused. `at` is an offset in bytes from 0.
+#[derive(Clone, Copy, Debug, PartialEq, Eq)]
+pub enum SourceFault {
+    /// The first fault of the text: a byte that begins no token, or that its number or pattern can't
+    /// have there.
+    BadByte { at: u32 },
+    /// The first fault of the text: the number that begins here, or its width, is 2 to 128 or more.
+    NumberTooLarge { at: u32 },
+    /// The first fault of the text: the comment that begins here has no end.
+    OpenComment { at: u32 },
+    /// The text has tokens, and they spell no design. They end too early where this is the text's
+    /// length.
+    Syntax { at: u32 },
+    /// The text spells a design, and it is outside the forms that are built.
+    NotBuilt,
+}
+
+/// Why the text of a design gives none.
+#[derive(Clone, Copy, Debug, PartialEq, Eq)]
+pub enum SourceError {
+    /// The text is refused.
+    Refused { fault: SourceFault },
+    /// The token at this offset in bytes is the 513th of one outermost expression.
+    Long { at: u32 },
+    /// Want of memory.
+    Memory,
+}
+
+impl From<ScanError> for SourceError {
+    ghost from_gives = { λ error refusal. refusal ≡ scan_refusal error };
+
+    fn from(error: ScanError) -> SourceError {
+        let fault = match error {
+            ScanError::BadByte { at } => SourceFault::BadByte { at },
+            ScanError::NumberTooLarge { at } => SourceFault::NumberTooLarge { at },
+            ScanError::OpenComment { at } => SourceFault::OpenComment { at },
+            ScanError::Memory => return SourceError::Memory,
+        };
+        SourceError::Refused { fault }
+    }
+}
+
+impl From<ParseError> for SourceError {
+    ghost from_gives = { λ error refusal. refusal ≡ parse_refusal error };
+
+    fn from(error: ParseError) -> SourceError {
+        match error {
+            ParseError::Syntax { at } => SourceError::Refused {
+                fault: SourceFault::Syntax { at },
+            },
+            ParseError::Long { at } => SourceError::Long { at },
+            ParseError::Memory => SourceError::Memory,
+        }
+    }
+}
+
+impl From<ElabError> for SourceError {
+    ghost from_gives = { λ error refusal. refusal ≡ elab_refusal error };
+
+    fn from(error: ElabError) -> SourceError {
+        match error {
+            ElabError::NotBuilt => SourceError::Refused {
+                fault: SourceFault::NotBuilt,
+            },
+            ElabError::Memory => SourceError::Memory,
+        }
+    }
+}
+
+/// Why the text of a table gives no claim: it is outside the forms that are built, or memory is
+/// wanting.
 #[derive(Clone, Copy, Debug, PartialEq, Eq)]
 pub enum ReadError {
     NotBuilt,
@@ -40,17 +110,6 @@ impl From<ScanError> for ReadError {
     fn from(error: ScanError) -> ReadError {
         match error {
             ScanError::Memory => ReadError::Memory,
-            _ => ReadError::NotBuilt,
-        }
-    }
-}
-
-impl From<ParseError> for ReadError {
-    ghost from_gives = { λ error fault. fault ≡ NotBuilt → error ≢ parse.Memory };
-
-    fn from(error: ParseError) -> ReadError {
-        match error {
-            ParseError::Memory => ReadError::Memory,
             _ => ReadError::NotBuilt,
         }
     }

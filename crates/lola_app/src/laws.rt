@@ -1,4 +1,4 @@
-ghost use Rattle.std.specs.Prelude.{◌≡◌, ◌≢◌, ℕ, List};
+ghost use Rattle.std.specs.Prelude.{◌≡◌, ◌≢◌, ◌⊎◌, ℕ, List};
 ghost use Rattle.lola_tree.specs.Tree.{SourceTree};
 ghost use Rattle.lola_elab.specs.Small.{IsSmallSource};
 ghost use Rattle.tab_tree.specs.Table.{TableTree};
@@ -6,7 +6,7 @@ ghost use Rattle.lola_app.specs.Accepts.{Accepts, IsSpelled, Fits};
 ghost use Rattle.lola_app.specs.Headline.{Resets, Commutes};
 ghost use Rattle.lola_app.specs.Obligations.{AllHold};
 ghost use Rattle.lola_app.specs.Reply.{Outcome, no_memory};
-ghost use Rattle.lola_app.specs.Serve.{IsDecided};
+ghost use Rattle.lola_app.specs.Serve.{IsDecided, IsUngrammatical};
 
 use lola_elab::next_is_a_state;
 use lola_parse::one_tree;
@@ -33,9 +33,10 @@ pub fn one_spelling()
 }
 
 /// Two texts have one answer of `decide`, want of memory aside: so each of its answers comes exactly
-/// where its cause holds.
+/// where its cause holds. But where the tokens of the design spell none, it isn't settled which of
+/// the two answers that say so comes, and at what place.
 pub fn one_answer()
-    ensures { (source table : List ℕ) (a b : Outcome) → IsDecided source table a → IsDecided source table b → a ≢ no_memory → b ≢ no_memory → a ≡ b }
+    ensures { (source table : List ℕ) (a b : Outcome) → IsDecided source table a → IsDecided source table b → a ≢ no_memory → b ≢ no_memory → (a ≡ b) ⊎ (IsUngrammatical a × IsUngrammatical b) }
 {
     one_reading();
     one_tree();

@@ -1,6 +1,7 @@
 ghost use Rattle.std.specs.Prelude.{◌≡◌, ◌++◌, IfOk, OnOk, codes, decimal, map};
-ghost use Rattle.lola_app.specs.Reply.{text_of, outcome_of, status_of, value_line, value_lines, line_of};
+ghost use Rattle.lola_app.specs.Reply.{text_of, fault_text, outcome_of, status_of, value_line, value_lines, line_of};
 
+use crate::fault::SourceFault;
 use crate::status::Status;
 use itoa::Buffer;
 use std::alloc::{AllocError, Global};
@@ -27,8 +28,15 @@ pub enum Reply {
     },
     /// The words are no command.
     WrongWords,
-    /// The design is outside the forms that are built.
-    SourceNotBuilt,
+    /// The text of the design is refused.
+    SourceRefused {
+        fault: SourceFault,
+    },
+    /// An outermost expression of the design has more than 512 tokens, of which the one at this
+    /// offset in bytes is the 513th.
+    LongExpression {
+        at: u32,
+    },
     /// The table is outside the forms that are built.
     TableNotBuilt,
     /// The file of this word couldn't be read.
@@ -51,7 +59,8 @@ pub fn reply_status(reply: &Reply) -> Status
         Reply::Accepted { .. } => Status::Ok,
         Reply::Failed { .. } => Status::No,
         Reply::WrongWords => Status::BadWords,
-        Reply::SourceNotBuilt => Status::SourceFault,
+        Reply::SourceRefused { .. } => Status::SourceFault,
+        Reply::LongExpression { .. } => Status::Limit,
         Reply::TableNotBuilt => Status::TableFault,
         Reply::Unread { .. } => Status::ReadFault,
         Reply::TooLong { .. } => Status::Limit,
@@ -75,7 +84,8 @@ pub fn render(alloc: Global, reply: &Reply) -> Result<Vec<u8>, AllocError>
             bits.as_slice(),
         )?,
         Reply::WrongWords => text.extend_from_slice(b"words\n")?,
-        Reply::SourceNotBuilt => text.extend_from_slice(b"source: NotBuilt\n")?,
+        Reply::SourceRefused { fault } => push_refusal(&mut text, *fault)?,
+        Reply::LongExpression { at } => push_long(&mut text, *at)?,
         Reply::TableNotBuilt => text.extend_from_slice(b"table: NotBuilt\n")?,
         Reply::Unread { word } => push_worded(&mut text, b"read: ", word.as_str())?,
         Reply::TooLong { word } => push_worded(&mut text, b"limit: text ", word.as_str())?,
@@ -91,6 +101,38 @@ fn push_counts(text: &mut Vec<u8>, obligations: usize, classes: usize) -> Result
     push_number(text, b"yes obligations=", obligations)?;
     push_number(text, b" classes=", classes)?;
     text.extend_from_slice(b" outside=0\n")?;
+    Ok(())
+}
+
+/// The line of a design's text that is refused.
+fn push_refusal(text: &mut Vec<u8>, fault: SourceFault) -> Result<(), AllocError>
+    ensures { OnOk result (text.new.items ≡ text.old.items ++ (codes "source: " ++ (fault_text fault ++ codes "\n"))) }
+{
+    text.extend_from_slice(b"source: ")?;
+    push_fault(text, fault)?;
+    text.extend_from_slice(b"\n")?;
+    Ok(())
+}
+
+/// The name of a fault, with its place where it has one.
+fn push_fault(text: &mut Vec<u8>, fault: SourceFault) -> Result<(), AllocError>
+    ensures { OnOk result (text.new.items ≡ text.old.items ++ fault_text fault) }
+{
+    match fault {
+        SourceFault::BadByte { at } => push_number(text, b"BadByte ", at as usize),
+        SourceFault::NumberTooLarge { at } => push_number(text, b"NumberTooLarge ", at as usize),
+        SourceFault::OpenComment { at } => push_number(text, b"OpenComment ", at as usize),
+        SourceFault::Syntax { at } => push_number(text, b"Syntax ", at as usize),
+        SourceFault::NotBuilt => text.extend_from_slice(b"NotBuilt"),
+    }
+}
+
+/// The line of an expression that is too long.
+fn push_long(text: &mut Vec<u8>, at: u32) -> Result<(), AllocError>
+    ensures { OnOk result (text.new.items ≡ text.old.items ++ (codes "limit: expression " ++ (decimal at ++ codes "\n"))) }
+{
+    push_number(text, b"limit: expression ", at as usize)?;
+    text.extend_from_slice(b"\n")?;
     Ok(())
 }
 

@@ -1,24 +1,23 @@
-ghost use Rattle.std.specs.Prelude.{◌≡◌, ◌+◌, ◌≤◌, length, List, ℕ, IfOk};
-ghost use Rattle.lola_scan.specs.declared.token.Token.{Token as Scanned};
-ghost use Rattle.lola_scan.specs.Tokens.{Spells};
+ghost use Rattle.std.specs.Prelude.{◌≡◌, ◌+◌, ◌≤◌, length, IfOk, IfErr};
+ghost use Rattle.lola_scan.specs.Tokens.{Scanned};
 ghost use Rattle.lola_parse.specs.Symbols.{AreIn};
-ghost use Rattle.lola_tree.specs.Tree.{SourceTree};
 ghost use Rattle.tab_tree.specs.Table.{TableTree};
-ghost use Rattle.lola_app.specs.Accepts.{Accepts, IsSpelled};
+ghost use Rattle.lola_app.specs.Accepts.{IsSpelled};
 ghost use Rattle.lola_app.specs.Claiming.{face_of};
 ghost use Rattle.lola_app.specs.Made.{IsDesignOf, IsTableOf};
+ghost use Rattle.lola_app.specs.Refused.{HasRefusal, HasLong};
 ghost use Rattle.lola_app.specs.Reply.{outcome_of};
 ghost use Rattle.lola_app.specs.Serve.{IsDecided, text_limit};
 ghost use Rattle.lola_app.specs.Small.{IsSmallTable};
 
 use crate::claim::{Claim, fit};
-use crate::fault::ReadError;
+use crate::fault::{ReadError, SourceError};
 use crate::laws::headline;
 use crate::reply::Reply;
 use crate::trial::try_claim;
 use lola_elab::{Design, one_cycle, read_design};
-use lola_parse::{one_tree, parse, tokens_lie_within};
-use lola_scan::{Token, one_reading, scan};
+use lola_parse::{parse, tokens_lie_within};
+use lola_scan::{ScanError, Token, one_reading, scan};
 use std::alloc::Global;
 use tab_read::{one_table, read_table};
 
@@ -30,8 +29,9 @@ pub fn decide_texts(alloc: Global, source: &[u8], table: &[u8]) -> Reply
 {
     let design = match source_design(alloc, source) {
         Ok(design) => design,
-        Err(ReadError::NotBuilt) => return Reply::SourceNotBuilt,
-        Err(ReadError::Memory) => return Reply::NoMemory,
+        Err(SourceError::Refused { fault }) => return Reply::SourceRefused { fault },
+        Err(SourceError::Long { at }) => return Reply::LongExpression { at },
+        Err(SourceError::Memory) => return Reply::NoMemory,
     };
     let claim = match table_claim(alloc, table, design) {
         Ok(claim) => claim,
@@ -46,25 +46,25 @@ pub fn decide_texts(alloc: Global, source: &[u8], table: &[u8]) -> Reply
     }
 }
 
-/// The one-bit design that a text spells.
-fn source_design(alloc: Global, text: &[u8]) -> Result<Design, ReadError>
+/// The one-bit design that a text spells, or why it gives none: the first fault of the text comes
+/// before those of its tokens, and these before the forms that aren't built.
+fn source_design(alloc: Global, text: &[u8]) -> Result<Design, SourceError>
     requires { length text.now ≤ text_limit }
     ensures ok { IfOk result (λ design. IsDesignOf text.now design) }
-    ensures none { result ≡ Err ReadError.NotBuilt → (S : SourceTree) → Accepts text.now S → ⊥ }
+    ensures refused { IfErr result (λ error. HasRefusal text.now error) }
+    ensures long { IfErr result (λ error. HasLong text.now error) }
 {
-    one_reading();
-    one_tree();
     let tokens = match text_tokens(alloc, text) {
         Ok(tokens) => tokens,
-        Err(fault) => return Err(fault),
+        Err(fault) => return Err(SourceError::from(fault)),
     };
     let source = match parse(alloc, text, tokens.as_slice()) {
         Ok(source) => source,
-        Err(fault) => return Err(ReadError::from(fault)),
+        Err(fault) => return Err(SourceError::from(fault)),
     };
     match read_design(alloc, &source) {
         Ok(design) => Ok(design),
-        Err(fault) => Err(ReadError::from(fault)),
+        Err(fault) => Err(SourceError::from(fault)),
     }
 }
 
@@ -80,7 +80,7 @@ fn table_claim(alloc: Global, text: &[u8], design: Design) -> Result<Claim, Read
     one_table();
     let tokens = match text_tokens(alloc, text) {
         Ok(tokens) => tokens,
-        Err(fault) => return Err(fault),
+        Err(fault) => return Err(ReadError::from(fault)),
     };
     let table = match read_table(alloc, text, tokens.as_slice()) {
         Ok(table) => table,
@@ -89,17 +89,15 @@ fn table_claim(alloc: Global, text: &[u8], design: Design) -> Result<Claim, Read
     fit(alloc, &table, design)
 }
 
-/// The tokens of a text.
-fn text_tokens(alloc: Global, text: &[u8]) -> Result<Vec<Token>, ReadError>
+/// The tokens of a text, which lie within it, or its first fault.
+fn text_tokens(alloc: Global, text: &[u8]) -> Result<Vec<Token>, ScanError>
     requires { length text.now ≤ text_limit }
-    ensures spells { IfOk result (λ tokens. Spells 0 text.now tokens.items) }
+    ensures scanned { Scanned text.now (λ tokens. tokens.items) result }
     ensures within { IfOk result (λ tokens. AreIn text.now tokens.items) }
-    ensures none { result ≡ Err ReadError.NotBuilt → (tokens : List Scanned) → Spells 0 text.now tokens → ⊥ }
 {
     tokens_lie_within();
-    one_reading();
     match scan(alloc, text) {
         Ok(tokens) => Ok(tokens),
-        Err(fault) => Err(ReadError::from(fault)),
+        Err(fault) => Err(fault),
     }
 }

@@ -86,9 +86,7 @@ fn a_word_that_no_class_fits_fails(rt: HostRuntime) -> Result<(), Fail> {
 fn a_design_outside_the_small_form_is_not_built(rt: HostRuntime) -> Result<(), Fail> {
     let table =
         b"TABLE T1 FOR Tog; ROLES RESET rst = 1; STATE INVARIANT 1; BOUNDARY 1; START CLASS go \"-\" PHASE; END T1.";
-    let sources: [&[u8]; 9] = [
-        b"",
-        b"?",
+    let sources: [&[u8]; 7] = [
         b"MODULE Tog(IN rst: BIT); END Tag.",
         b"MODULE Tog(IN rst: BYTE); END Tog.",
         b"MODULE Tog(IN rst: BIT); VAR x: BIT; BEGIN x := rst END Tog.",
@@ -133,34 +131,4 @@ fn a_table_outside_the_small_form_is_not_built(rt: HostRuntime) -> Result<(), Fa
         )?;
     }
     Ok(())
-}
-
-/// The toggler with an output of so many negations of its register.
-fn negated(alloc: Global, count: usize) -> Result<Vec<u8>, Fail> {
-    let mut source =
-        b"MODULE Tog(IN clk, rst, t: BIT; OUT o: BIT); REG (clk) q: BIT;\nBEGIN q := ~rst & (q ^ t); o := ".to_vec(
-            alloc,
-        )?;
-    source.extend_from_slice(vec![in alloc; b'~'; count]?.as_slice())?;
-    source.extend_from_slice(b"q END Tog.")?;
-    Ok(source)
-}
-
-#[test]
-fn an_expression_has_at_most_512_tokens(rt: HostRuntime) -> Result<(), Fail> {
-    let alloc = rt.alloc();
-    let table =
-        b"TABLE T1 FOR Tog; ROLES RESET rst = 1; LOADED t;\nSTATE q: BIT IS @q; INVARIANT 1; BOUNDARY 1; START q := 0;\nCLASS flip \"-\" PHASE LOAD; SET q := q ^ d0; END T1.";
-    let source = negated(alloc, 511)?;
-    let text = b"yes obligations=7 classes=1 outside=0\n";
-    expect(&rt, alloc, source.as_slice(), table, Status::Ok, text)?;
-    let source = negated(alloc, 512)?;
-    expect(
-        &rt,
-        alloc,
-        source.as_slice(),
-        table,
-        Status::SourceFault,
-        b"source: NotBuilt\n",
-    )
 }

@@ -9,4 +9,6 @@ mod makers;
 #[cfg(test)]
 mod outside;
 #[cfg(test)]
+mod refusals;
+#[cfg(test)]
 mod verdicts;

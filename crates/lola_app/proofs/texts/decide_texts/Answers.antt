@@ -4,13 +4,10 @@ use Rattle.lola_app.proofs.Decided.{decided, small_face}
 use Rattle.lola_app.proofs.texts.decide_texts.Goals as goal
 
 pub returns-in-Err-NotBuilt : goal.returns-in-Err-NotBuilt
-returns-in-Err-NotBuilt c = c.in-Err-NotBuilt.ensures.none (ap (λ f. Err f) c.in-Err-NotBuilt.field-0-is)
-
-pub returns-in-Err-NotBuilt-table_claim : goal.returns-in-Err-NotBuilt-table_claim
-returns-in-Err-NotBuilt-table_claim c = record {
+returns-in-Err-NotBuilt c = record {
   S = c.in-Ok.ensures.ok.S;
   design = c.in-Ok.ensures.ok.accepts;
-  none = λ T fitting. c.in-Err-NotBuilt-table_claim.ensures.none (ap (λ f. Err f) c.in-Err-NotBuilt-table_claim.field-0-is) T fitting.spelled
+  none = λ T fitting. c.in-Err-NotBuilt.ensures.none (ap (λ f. Err f) c.in-Err-NotBuilt.field-0-is) T fitting.spelled
       (small_face c.in-Ok.ensures.ok.S c.in-Ok.design T c.in-Ok.ensures.ok.elaborated fitting.fits);
 }
 

@@ -1,0 +1,46 @@
+-- What is said of a text that gives no design, against what was found in it.
+use Rattle.std.proofs.Common.{◌≡◌, ◌≢◌, ℕ, List, refl}
+use Rattle.std.specs.Prelude.{Err}
+use Rattle.lola_scan.specs.declared.token.Token.{Token}
+use Rattle.lola_scan.specs.declared.token.ScanError.{ScanError}
+use Rattle.lola_scan.specs.declared.token.ScanError.TheVariants as scan
+use Rattle.lola_scan.specs.Tokens.{Scanned}
+use Rattle.lola_parse.specs.declared.parser.ParseError.{ParseError}
+use Rattle.lola_parse.specs.declared.parser.ParseError.TheVariants as parse
+use Rattle.lola_elab.specs.declared.fault.ElabError.{ElabError}
+use Rattle.lola_elab.specs.declared.fault.ElabError.TheVariants as elab
+use Rattle.lola_app.specs.Refused.{HasNoTree, IsOutside, HasRefusal, HasLong, scan_refusal, parse_refusal, elab_refusal}
+
+-- a fault of the scanner is the text's first
+pub scan_refused : {V : Type 0} (text : List ℕ) (items : V → List Token) (error : ScanError) → Scanned {V = V} text items (Err error) → HasRefusal text (scan_refusal error)
+scan_refused text items (scan.BadByte at) is = is
+scan_refused text items (scan.NumberTooLarge at) is = is
+scan_refused text items (scan.OpenComment at) is = is
+scan_refused text items scan.Memory is = tt
+
+-- and it is no expression that is too long
+pub scan_long : (text : List ℕ) (error : ScanError) → HasLong text (scan_refusal error)
+scan_long text (scan.BadByte at) = tt
+scan_long text (scan.NumberTooLarge at) = tt
+scan_long text (scan.OpenComment at) = tt
+scan_long text scan.Memory = tt
+
+-- the parser's errors but want of memory come where the tokens spell no design
+pub parse_refused : (text : List ℕ) (error : ParseError) → (error ≢ parse.Memory → HasNoTree text) → HasRefusal text (parse_refusal error)
+parse_refused text (parse.Syntax at) none = none (λ e. cc)
+parse_refused text (parse.Long at) none = tt
+parse_refused text parse.Memory none = tt
+
+pub parse_long : (text : List ℕ) (error : ParseError) → (error ≢ parse.Memory → HasNoTree text) → HasLong text (parse_refusal error)
+parse_long text (parse.Syntax at) none = tt
+parse_long text (parse.Long at) none = none (λ e. cc)
+parse_long text parse.Memory none = tt
+
+-- a tree that gives no design is outside the forms that are built
+pub elab_refused : (text : List ℕ) (error : ElabError) → (error ≡ elab.NotBuilt → IsOutside text) → HasRefusal text (elab_refusal error)
+elab_refused text elab.NotBuilt outside = outside refl
+elab_refused text elab.Memory outside = tt
+
+pub elab_long : (text : List ℕ) (error : ElabError) → HasLong text (elab_refusal error)
+elab_long text elab.NotBuilt = tt
+elab_long text elab.Memory = tt

@@ -1,0 +1,73 @@
+-- When the text of a design is refused, and why.
+use Rattle.std.specs.Prelude.{ℕ, List}
+use Rattle.lola_tree.specs.Tree.{SourceTree}
+use Rattle.lola_scan.specs.declared.token.Token.{Token}
+use Rattle.lola_scan.specs.declared.token.ScanError.{ScanError}
+use Rattle.lola_scan.specs.declared.token.ScanError.TheVariants as scan
+use Rattle.lola_scan.specs.Tokens.{Spells, Fails}
+use Rattle.lola_parse.specs.declared.parser.ParseError.{ParseError}
+use Rattle.lola_parse.specs.declared.parser.ParseError.TheVariants as parse
+use Rattle.lola_parse.specs.declared.symbol.Language.TheVariants.{Design}
+use Rattle.lola_parse.specs.Symbols.{items_of}
+use Rattle.lola_parse.specs.Design.{SpellsSource}
+use Rattle.lola_elab.specs.declared.fault.ElabError.{ElabError}
+use Rattle.lola_elab.specs.declared.fault.ElabError.TheVariants as elab
+use Rattle.lola_elab.specs.Small.{IsSmallSource}
+use Rattle.lola_app.specs.declared.fault.SourceFault.{SourceFault}
+use Rattle.lola_app.specs.declared.fault.SourceFault.TheVariants.{BadByte, NumberTooLarge, OpenComment, Syntax, NotBuilt}
+use Rattle.lola_app.specs.declared.fault.SourceError.{SourceError}
+use Rattle.lola_app.specs.declared.fault.SourceError.TheVariants.{Refused, Long, Memory}
+
+-- the text spells tokens, and they spell no design with at most 512 tokens in each outermost expression
+pub record HasNoTree (source : List ℕ) : Type 0 where
+  pub tokens : List Token
+  pub spells : Spells 0 source tokens
+  pub none : (S : SourceTree) → SpellsSource (items_of Design source tokens) S → ⊥
+
+-- the text spells a design, and it is outside the forms that are built
+pub record IsOutside (source : List ℕ) : Type 0 where
+  pub S : SourceTree
+  pub tokens : List Token
+  pub spells : Spells 0 source tokens
+  pub spelled : SpellsSource (items_of Design source tokens) S
+  pub large : IsSmallSource S → ⊥
+
+-- when each refusal of a design's text comes: a fault of the text where it is its first; Syntax where
+-- the text has no fault, and its tokens spell no design; NotBuilt where they spell one, and it is
+-- outside the forms that are built
+abbrev pub IsRefused : List ℕ → SourceFault → Type 0
+IsRefused source (BadByte at) = Fails 0 source (scan.BadByte at)
+IsRefused source (NumberTooLarge at) = Fails 0 source (scan.NumberTooLarge at)
+IsRefused source (OpenComment at) = Fails 0 source (scan.OpenComment at)
+IsRefused source (Syntax at) = HasNoTree source
+IsRefused source NotBuilt = IsOutside source
+
+-- what holds of a text that is refused
+abbrev pub HasRefusal : List ℕ → SourceError → Type 0
+HasRefusal source (Refused fault) = IsRefused source fault
+HasRefusal source (Long at) = Unit {0}
+HasRefusal source Memory = Unit {0}
+
+-- what holds of a text with an expression that is too long
+abbrev pub HasLong : List ℕ → SourceError → Type 0
+HasLong source (Long at) = HasNoTree source
+HasLong source (Refused fault) = Unit {0}
+HasLong source Memory = Unit {0}
+
+-- what is said of a text that has a fault
+abbrev pub scan_refusal : ScanError → SourceError
+scan_refusal (scan.BadByte at) = Refused (BadByte at)
+scan_refusal (scan.NumberTooLarge at) = Refused (NumberTooLarge at)
+scan_refusal (scan.OpenComment at) = Refused (OpenComment at)
+scan_refusal scan.Memory = Memory
+
+-- what is said of a text whose tokens have no tree
+abbrev pub parse_refusal : ParseError → SourceError
+parse_refusal (parse.Syntax at) = Refused (Syntax at)
+parse_refusal (parse.Long at) = Long at
+parse_refusal parse.Memory = Memory
+
+-- what is said of a text whose tree gives no design
+abbrev pub elab_refusal : ElabError → SourceError
+elab_refusal elab.NotBuilt = Refused NotBuilt
+elab_refusal elab.Memory = Memory
