@@ -18,7 +18,7 @@ use Rattle.lola_app.specs.Accepts.{Accepts, IsSpelled, AcceptsTable}
 use Rattle.lola_app.specs.Obligations.{Obligation, cover, reset, ends, obligations, obligation_name, Valuation, HoldsAt, IsViolatedAt, HoldsAlways, free_inputs, free_names, free_values, ComesBefore, IsLeastViolation}
 use Rattle.lola_app.specs.declared.fault.SourceFault.{SourceFault}
 use Rattle.lola_app.specs.declared.fault.SourceFault.TheVariants.{BadByte, NumberTooLarge, OpenComment, Syntax, NotBuilt}
-use Rattle.lola_app.specs.Refused.{HasNoTree, IsOutside, IsRefused}
+use Rattle.lola_app.specs.Refused.{HasNoTree, HasLongExpression, IsOutside, IsRefused}
 use Rattle.lola_app.specs.Reply.{Line, Outcome, accepted, failed, wrong_words, source_refused, long_expression, table_not_built, unread, too_long, no_memory}
 use Rattle.lola_app.specs.Serve.{IsYes, IsNo, IsTableRefused, IsDecided, IsUngrammatical, lines_of}
 use Rattle.lola_app.proofs.Leaves.{length_map}
@@ -164,8 +164,8 @@ module _ (reading : OneReadingLaw) (tree : OneTreeLaw) (table : OneTableLaw) (s 
   cause_of (Syntax at) is = by_grammar is tt
   cause_of NotBuilt is = by_form is refl
 
-  cause_of_long : (at : ℕ) → HasNoTree s → SourceCause (long_expression at)
-  cause_of_long at is = by_grammar is tt
+  cause_of_long : (at : ℕ) → HasLongExpression s at → SourceCause (long_expression at)
+  cause_of_long at is = by_grammar is.no_tree tt
 
   -- a text with such a cause isn't accepted
   not_accepted : {a : Outcome} {S : SourceTree} → SourceCause a → Accepts s S → ⊥

@@ -7,6 +7,9 @@ use Rattle.lola_scan.specs.declared.token.ScanError.TheVariants as scan
 use Rattle.lola_scan.specs.Tokens.{Scanned}
 use Rattle.lola_parse.specs.declared.parser.ParseError.{ParseError}
 use Rattle.lola_parse.specs.declared.parser.ParseError.TheVariants as parse
+use Rattle.lola_parse.specs.declared.symbol.Language.TheVariants.{Design}
+use Rattle.lola_parse.specs.Symbols.{items_of}
+use Rattle.lola_parse.specs.Long.{IsTooLong, LongSays}
 use Rattle.lola_elab.specs.declared.fault.ElabError.{ElabError}
 use Rattle.lola_elab.specs.declared.fault.ElabError.TheVariants as elab
 use Rattle.lola_app.specs.Refused.{HasNoTree, IsOutside, HasRefusal, HasLong, scan_refusal, parse_refusal, elab_refusal}
@@ -31,10 +34,11 @@ parse_refused text (parse.Syntax at) none = none (λ e. cc)
 parse_refused text (parse.Long at) none = tt
 parse_refused text parse.Memory none = tt
 
-pub parse_long : (text : List ℕ) (error : ParseError) → (error ≢ parse.Memory → HasNoTree text) → HasLong text (parse_refusal error)
-parse_long text (parse.Syntax at) none = tt
-parse_long text (parse.Long at) none = none (λ e. cc)
-parse_long text parse.Memory none = tt
+pub parse_long : (text : List ℕ) (error : ParseError) (no_tree : error ≢ parse.Memory → HasNoTree text) →
+    ((other : error ≢ parse.Memory) → LongSays (IsTooLong Design (items_of Design text (no_tree other).tokens)) error) → HasLong text (parse_refusal error)
+parse_long text (parse.Syntax at) no_tree long = tt
+parse_long text (parse.Long at) no_tree long = record { no_tree = no_tree (λ e. cc); long = long (λ e. cc) }
+parse_long text parse.Memory no_tree long = tt
 
 -- a tree that gives no design is outside the forms that are built
 pub elab_refused : (text : List ℕ) (error : ElabError) → (error ≡ elab.NotBuilt → IsOutside text) → HasRefusal text (elab_refusal error)

@@ -10,6 +10,7 @@ use Rattle.lola_parse.specs.declared.parser.ParseError.TheVariants as parse
 use Rattle.lola_parse.specs.declared.symbol.Language.TheVariants.{Design}
 use Rattle.lola_parse.specs.Symbols.{items_of}
 use Rattle.lola_parse.specs.Design.{SpellsSource}
+use Rattle.lola_parse.specs.Long.{IsTooLong}
 use Rattle.lola_elab.specs.declared.fault.ElabError.{ElabError}
 use Rattle.lola_elab.specs.declared.fault.ElabError.TheVariants as elab
 use Rattle.lola_elab.specs.Small.{IsSmallSource}
@@ -23,6 +24,12 @@ pub record HasNoTree (source : List ℕ) : Type 0 where
   pub tokens : List Token
   pub spells : Spells 0 source tokens
   pub none : (S : SourceTree) → SpellsSource (items_of Design source tokens) S → ⊥
+
+-- they spell none, and somewhere among them stand 513 with which some expression begins, the last of them
+-- at this place
+pub record HasLongExpression (source : List ℕ) (at : ℕ) : Type 0 where
+  pub no_tree : HasNoTree source
+  pub long : IsTooLong Design (items_of Design source no_tree.tokens) at
 
 -- the text spells a design, and it is outside the forms that are built
 pub record IsOutside (source : List ℕ) : Type 0 where
@@ -50,7 +57,7 @@ HasRefusal source Memory = Unit {0}
 
 -- what holds of a text with an expression that is too long
 abbrev pub HasLong : List ℕ → SourceError → Type 0
-HasLong source (Long at) = HasNoTree source
+HasLong source (Long at) = HasLongExpression source at
 HasLong source (Refused fault) = Unit {0}
 HasLong source Memory = Unit {0}
 

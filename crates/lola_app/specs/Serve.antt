@@ -17,7 +17,7 @@ use Rattle.lola_app.specs.declared.reply.Reply.TheVariants.{Unread, TooLong, NoM
 use Rattle.lola_app.specs.declared.status.Status.{Status}
 use Rattle.lola_app.specs.declared.status.Status.TheVariants as status
 use Rattle.lola_app.specs.Printing.{AppendedFront}
-use Rattle.lola_app.specs.Refused.{HasNoTree, IsRefused}
+use Rattle.lola_app.specs.Refused.{IsRefused, HasLongExpression}
 use Rattle.lola_app.specs.Reply.{Line, Outcome, accepted, failed, wrong_words, source_refused, long_expression, table_not_built, unread, too_long, no_memory, status_of, text_of}
 
 -- the words are `decide` and the names of a design and of a table
@@ -107,7 +107,7 @@ abbrev pub IsDecided : List ℕ → List ℕ → Outcome → Type 0
 IsDecided source table (accepted obliged inside) = IsYes source table obliged inside
 IsDecided source table (failed name lines) = IsNo source table name lines
 IsDecided source table (source_refused fault) = IsRefused source fault
-IsDecided source table (long_expression at) = HasNoTree source
+IsDecided source table (long_expression at) = HasLongExpression source at
 IsDecided source table table_not_built = IsTableRefused source table
 IsDecided source table no_memory = Unit {0}
 IsDecided source table wrong_words = ⊥

@@ -4,12 +4,11 @@ use Rattle.lola_bits.specs.declared.op.Op.{Op}
 use Rattle.lola_bits.specs.declared.op.Op.TheVariants as op
 use Rattle.lola_tree.specs.declared.named.Ref.{Ref}
 use Rattle.lola_tree.specs.declared.expr.Part.{Part}
-use Rattle.lola_tree.specs.Tree.{Tree, tree, binary, Parts}
+use Rattle.lola_tree.specs.Tree.{Tree, tree, binary, Parts, parts_tree}
 use Rattle.lola_parse.specs.declared.symbol.Symbol.{Symbol}
 use Rattle.lola_parse.specs.declared.symbol.Symbol.TheVariants as s
 use Rattle.lola_parse.specs.declared.symbol.Language.{Language}
 use Rattle.lola_parse.specs.Symbols.{Item}
-use Rattle.lola_parse.specs.Parts.{parts_tree}
 use Rattle.lola_parse.specs.Grammar.{Stands, Reference, Expression, chosen, Rel, Term, Terms, one_term, Factor, one_bit, sliced, indexed, joined, shifted, nested, negated, shift_of, adding_of, Factors, one_factor, OnePart, MoreParts, one_more}
 use Rattle.lola_parse.specs.Behind.{ChoiceBehind, NegationBehind, NestedBehind, ShiftBehind, ConcatBehind, IndexBehind, BitBehind, SliceBehind}
 use Rattle.lola_parse.proofs.Parts.{parts_more}

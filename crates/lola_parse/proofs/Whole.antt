@@ -6,13 +6,13 @@ use Rattle.lola_tree.specs.declared.named.Count.{Count}
 use Rattle.lola_tree.specs.declared.named.Count.TheVariants as count
 use Rattle.lola_tree.specs.declared.named.Ref.{Ref}
 use Rattle.lola_tree.specs.declared.expr.Part.{Part}
-use Rattle.lola_tree.specs.Tree.{Tree, tree, binary, choice, Parts, no_part, one_part}
+use Rattle.lola_tree.specs.Tree.{Tree, tree, binary, choice, Parts, no_part, one_part, parts_tree}
 use Rattle.lola_parse.specs.declared.symbol.Symbol.{Symbol}
 use Rattle.lola_parse.specs.declared.symbol.Symbol.TheVariants as s
 use Rattle.lola_parse.specs.declared.symbol.Language.{Language}
 use Rattle.lola_parse.specs.declared.cursor.Next.{Next}
 use Rattle.lola_parse.specs.Symbols.{Item}
-use Rattle.lola_parse.specs.Parts.{part_tree, parts_tree}
+use Rattle.lola_parse.specs.Parts.{part_tree}
 use Rattle.lola_parse.specs.Grammar.{Counted, Stands, Passes, Times, once, repeated, Expression, one_rel, chosen, Rel, one_sum, related, Sum, sum, Terms, no_term, one_term, Term, term, Factors, no_factor, one_factor, Factor, OnePart, part, MoreParts, no_more, one_more, with_part, relation_of, adding_of, place_of}
 use Rattle.lola_parse.specs.Behind.{ChoiceBehind, NestedBehind, ShiftBehind, ConcatBehind, IndexBehind, PartRead}
 use Rattle.std.specs.Result.{IsErrAnd}

@@ -1,8 +1,8 @@
 ghost use Rattle.std.specs.Prelude.{ℕ, List, ◌<◌, ◌≤◌, length, IfOk, IfErr, ◌≡◌};
-ghost use Rattle.lola_tree.specs.Tree.{tree};
+ghost use Rattle.lola_tree.specs.Tree.{tree, parts_tree};
 ghost use Rattle.lola_parse.specs.declared.symbol.Language.{Language as TheLanguage};
 ghost use Rattle.lola_parse.specs.Symbols.{Item};
-ghost use Rattle.lola_parse.specs.Parts.{part_tree, parts_tree};
+ghost use Rattle.lola_parse.specs.Parts.{part_tree};
 ghost use Rattle.lola_parse.specs.Grammar.{Expression, Rel, Sum, Terms, Term, Factors, Factor, OnePart, MoreParts, relation_of, adding_of};
 ghost use Rattle.lola_parse.specs.Design.{Outermost};
 ghost use Rattle.lola_parse.specs.Behind.{ChoiceBehind, NegationBehind, NestedBehind, ShiftBehind, ConcatBehind, IndexBehind, Referred, PartRead};

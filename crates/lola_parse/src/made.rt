@@ -1,6 +1,5 @@
 ghost use Rattle.std.specs.Prelude.{◌≡◌, [], ◌∷◌, ◌++◌, IfOk};
-ghost use Rattle.lola_tree.specs.Tree.{tree, number, whole, bit, slice, index, concat, negation, binary, choice};
-ghost use Rattle.lola_parse.specs.Parts.{parts_tree};
+ghost use Rattle.lola_tree.specs.Tree.{tree, number, whole, bit, slice, index, concat, negation, binary, choice, parts_tree};
 
 use lola_bits::{Memory, Op, Seq};
 use lola_tree::{Count, Expr, Part, Ref};

@@ -3,6 +3,7 @@ use Rattle.std.specs.Prelude.{Err}
 use Rattle.lola_parse.specs.declared.symbol.Language.TheVariants.{Design}
 use Rattle.lola_parse.specs.Symbols.{items_of}
 use Rattle.lola_parse.specs.Design.{SpellsSource}
+use Rattle.lola_parse.specs.Long.{IsTooLong, LongSays}
 use Rattle.lola_tree.specs.Tree.{source_tree}
 use Rattle.lola_scan.specs.declared.token.Token.{Token}
 use Rattle.lola_app.specs.Refused.{HasRefusal, HasLong}
@@ -32,7 +33,7 @@ returns-in-Err-parse-clause-long c =
       spells = c.in-Ok.ensures.scanned;
       none = λ S spelled. c.in-Err-parse.ensures.none other S
           (subst (λ (ts : List Token). SpellsSource (items_of Design c.args.text.now ts) S) (sym c.as_slice.ensures.value) spelled);
-    }))
+    }) (λ other. subst (λ (ts : List Token). LongSays (IsTooLong Design (items_of Design c.args.text.now ts)) c.in-Err-parse.fault) c.as_slice.ensures.value c.in-Err-parse.ensures.long))
 
 pub returns-clause-refused : goal.returns-clause-refused
 returns-clause-refused c =

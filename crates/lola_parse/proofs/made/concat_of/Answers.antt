@@ -1,5 +1,5 @@
 use Rattle.std.proofs.Common.{refl}
-use Rattle.lola_parse.proofs.Parts.{concat_tree}
+use Rattle.lola_tree.proofs.Parts.{concat_tree}
 use Rattle.lola_parse.proofs.made.concat_of.Goals as goal
 
 pub returns : goal.returns
