@@ -1,3 +1,4 @@
+pub mod Number
 pub mod formers
 pub mod Lends
 pub mod Vector

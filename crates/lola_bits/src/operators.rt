@@ -1,0 +1,158 @@
+ghost use Rattle.std.specs.Prelude.{◌≡◌, ◌+◌, ◌-◌, ◌*◌, ◌/◌, ◌%◌, ◌^◌, ◌≤◌, ◌<◌, nat_eq, nat_lt, bit_and, bit_or, bit_xor};
+ghost use Rattle.lola_bits.specs.Number.{bit_at, slice_of, joined, inverted, sum, difference};
+ghost use Rattle.lola_bits.specs.Vector.{FitsWidth};
+
+use crate::vector::Bits;
+
+/// The number whose lowest `width` bits are 1 and whose others are 0.
+fn mask(width: u32) -> u128
+    requires positive { 1 ≤ width }
+    requires at_most { width ≤ 128 }
+    ensures { result ≡ 2 ^ width - 1 }
+{
+    u128::MAX >> (128 - width)
+}
+
+/// The vector of the lowest `width` bits of a number.
+fn cut(width: u32, value: u128) -> Bits
+    requires positive { 1 ≤ width }
+    requires at_most { width ≤ 128 }
+    ensures value { result ≡ record { width = width; value = value % 2 ^ width } }
+    ensures fits { FitsWidth result.width result.value }
+{
+    Bits {
+        width,
+        value: value & mask(width),
+    }
+}
+
+impl Bits {
+    /// Whether bit `n` is 1: bit 0 is the lowest and bit `width - 1` the top one. Takes no memory.
+    pub fn bit(self, n: u32) -> bool
+        requires fits { FitsWidth self.width self.value }
+        requires within { n < self.width }
+        ensures { result ≡ nat_eq (bit_at self.value n) 1 }
+    {
+        self.value >> n & 1 == 1
+    }
+
+    /// The bits from number `low` up to number `high`, both taken in, as a vector of
+    /// `high - low + 1` bits: bit `low` becomes bit 0. Takes no memory.
+    pub fn slice(self, high: u32, low: u32) -> Bits
+        requires fits { FitsWidth self.width self.value }
+        requires in_order { low ≤ high }
+        requires within { high < self.width }
+        ensures value { result ≡ record { width = high - low + 1; value = slice_of self.value high low } }
+        ensures fits { FitsWidth result.width result.value }
+    {
+        cut(high - low + 1, self.value >> low)
+    }
+
+    /// This vector with the bits of `low` below it: the widths are added, and come to at most 128
+    /// bits. Takes no memory.
+    pub fn concat(self, low: Bits) -> Bits
+        requires fits { FitsWidth self.width self.value }
+        requires low_fits { FitsWidth low.width low.value }
+        requires at_most { self.width + low.width ≤ 128 }
+        ensures value { result ≡ record { width = self.width + low.width; value = joined self.value low.width low.value } }
+        ensures fits { FitsWidth result.width result.value }
+    {
+        Bits {
+            width: self.width + low.width,
+            value: self.value << low.width | low.value,
+        }
+    }
+
+    /// The vector of the same width with each bit the other way. Takes no memory.
+    pub fn not(self) -> Bits
+        requires fits { FitsWidth self.width self.value }
+        ensures value { result ≡ record { width = self.width; value = inverted self.width self.value } }
+        ensures fits { FitsWidth result.width result.value }
+    {
+        Bits {
+            width: self.width,
+            value: mask(self.width) - self.value,
+        }
+    }
+
+    /// The vector whose bits are 1 where they are 1 in both vectors, which are of one width. Takes
+    /// no memory.
+    pub fn and(self, other: Bits) -> Bits
+        requires fits { FitsWidth self.width self.value }
+        requires other_fits { FitsWidth other.width other.value }
+        requires same { other.width ≡ self.width }
+        ensures value { result ≡ record { width = self.width; value = bit_and self.value other.value } }
+        ensures fits { FitsWidth result.width result.value }
+    {
+        Bits {
+            width: self.width,
+            value: self.value & other.value,
+        }
+    }
+
+    /// The vector whose bits are 1 where they are 1 in one of two vectors of one width, or in both.
+    /// Takes no memory.
+    #[tactic(auto, using(crate::proofs::Numbers::or_fits))]
+    pub fn or(self, other: Bits) -> Bits
+        requires fits { FitsWidth self.width self.value }
+        requires other_fits { FitsWidth other.width other.value }
+        requires same { other.width ≡ self.width }
+        ensures value { result ≡ record { width = self.width; value = bit_or self.value other.value } }
+        ensures fits { FitsWidth result.width result.value }
+    {
+        Bits {
+            width: self.width,
+            value: self.value | other.value,
+        }
+    }
+
+    /// The vector whose bits are 1 where they are 1 in just one of two vectors of one width. Takes
+    /// no memory.
+    #[tactic(auto, using(crate::proofs::Numbers::xor_fits))]
+    pub fn xor(self, other: Bits) -> Bits
+        requires fits { FitsWidth self.width self.value }
+        requires other_fits { FitsWidth other.width other.value }
+        requires same { other.width ≡ self.width }
+        ensures value { result ≡ record { width = self.width; value = bit_xor self.value other.value } }
+        ensures fits { FitsWidth result.width result.value }
+    {
+        Bits {
+            width: self.width,
+            value: self.value ^ other.value,
+        }
+    }
+
+    /// The sum of two numbers of one width, modulo 2 to the width: the carry out of the top bit is
+    /// dropped. Takes no memory.
+    pub fn add(self, other: Bits) -> Bits
+        requires fits { FitsWidth self.width self.value }
+        requires other_fits { FitsWidth other.width other.value }
+        requires same { other.width ≡ self.width }
+        ensures value { result ≡ record { width = self.width; value = sum self.width self.value other.value } }
+        ensures fits { FitsWidth result.width result.value }
+    {
+        cut(self.width, self.value.wrapping_add(other.value))
+    }
+
+    /// This number less another of the same width, modulo 2 to the width: where the other is
+    /// greater, the difference goes round. Takes no memory.
+    pub fn sub(self, other: Bits) -> Bits
+        requires fits { FitsWidth self.width self.value }
+        requires other_fits { FitsWidth other.width other.value }
+        requires same { other.width ≡ self.width }
+        ensures value { result ≡ record { width = self.width; value = difference self.width self.value other.value } }
+        ensures fits { FitsWidth result.width result.value }
+    {
+        cut(self.width, self.value.wrapping_sub(other.value))
+    }
+
+    /// Whether this number is below another of the same width. No bit is a sign. Takes no memory.
+    pub fn less(self, other: Bits) -> bool
+        requires fits { FitsWidth self.width self.value }
+        requires other_fits { FitsWidth other.width other.value }
+        requires same { other.width ≡ self.width }
+        ensures { result ≡ nat_lt self.value other.value }
+    {
+        self.value < other.value
+    }
+}
