@@ -1,5 +1,5 @@
 ghost use Rattle.std.specs.Prelude.{◌≡◌, ◌+◌, ◌-◌, ◌*◌, ◌/◌, ◌%◌, ◌^◌, ◌≤◌, ◌<◌, nat_eq, nat_lt, bit_and, bit_or, bit_xor};
-ghost use Rattle.lola_bits.specs.Number.{bit_at, slice_of, joined, inverted, sum, difference};
+ghost use Rattle.lola_bits.specs.Number.{bit_at, slice_of, joined, inverted, sum, difference, moved_up, moved_down, moved_filled, turned};
 ghost use Rattle.lola_bits.specs.Vector.{FitsWidth};
 
 use crate::vector::Bits;
@@ -154,5 +154,97 @@ impl Bits {
         ensures { result ≡ nat_lt self.value other.value }
     {
         self.value < other.value
+    }
+
+    /// The bits moved up by as many places as the number `by` says, with 0 moved in from below; what
+    /// is moved out at the top is dropped. `by` may be any number of any width: a move by the width
+    /// or more leaves 0. Takes no memory.
+    pub fn shl(self, by: Bits) -> Bits
+        requires fits { FitsWidth self.width self.value }
+        requires by_fits { FitsWidth by.width by.value }
+        ensures value { result ≡ record { width = self.width; value = moved_up self.width self.value by.value } }
+        ensures fits { FitsWidth result.width result.value }
+    {
+        if by.value < self.width as u128 {
+            cut(self.width, self.value << by.value as u32)
+        } else {
+            Bits {
+                width: self.width,
+                value: 0,
+            }
+        }
+    }
+
+    /// The bits moved down by as many places as the number `by` says, with 0 moved in from above;
+    /// what is moved out at the bottom is dropped. `by` may be any number of any width: a move by
+    /// the width or more leaves 0. Takes no memory.
+    pub fn shr(self, by: Bits) -> Bits
+        requires fits { FitsWidth self.width self.value }
+        requires by_fits { FitsWidth by.width by.value }
+        ensures value { result ≡ record { width = self.width; value = moved_down self.value by.value } }
+        ensures fits { FitsWidth result.width result.value }
+    {
+        let value = if by.value < self.width as u128 {
+            self.value >> by.value as u32
+        } else {
+            0
+        };
+        Bits {
+            width: self.width,
+            value,
+        }
+    }
+
+    /// The number whose lowest `width` bits are copies of the vector's top bit.
+    fn top_copies(self) -> u128
+        requires fits { FitsWidth self.width self.value }
+        ensures { result ≡ self.value / 2 ^ (self.width - 1) * (2 ^ self.width - 1) }
+    {
+        if self.bit(self.width - 1) {
+            mask(self.width)
+        } else {
+            0
+        }
+    }
+
+    /// The bits moved down by as many places as the number `by` says, with copies of the top bit
+    /// moved in from above, so that a number with sign is divided and rounded down. `by` may be any
+    /// number of any width: a move by the width or more leaves copies of the top bit alone. Takes no
+    /// memory.
+    pub fn asr(self, by: Bits) -> Bits
+        requires fits { FitsWidth self.width self.value }
+        requires by_fits { FitsWidth by.width by.value }
+        ensures value { result ≡ record { width = self.width; value = moved_filled self.width self.value by.value } }
+        ensures fits { FitsWidth result.width result.value }
+    {
+        let copies = self.top_copies();
+        let value = if by.value < self.width as u128 {
+            let places = by.value as u32;
+            (self.value >> places) + (copies - (copies >> places))
+        } else {
+            copies
+        };
+        Bits {
+            width: self.width,
+            value,
+        }
+    }
+
+    /// The bits turned down by as many places as the number `by` says, modulo the vector's width:
+    /// what is moved out at the bottom comes in at the top. `by` may be any number of any width.
+    /// Takes no memory.
+    pub fn ror(self, by: Bits) -> Bits
+        requires fits { FitsWidth self.width self.value }
+        requires by_fits { FitsWidth by.width by.value }
+        ensures value { result ≡ record { width = self.width; value = turned self.width self.value by.value } }
+        ensures fits { FitsWidth result.width result.value }
+    {
+        let places = (by.value % self.width as u128) as u32;
+        if places == 0 {
+            self
+        } else {
+            self.slice(places - 1, 0)
+                .concat(self.slice(self.width - 1, places))
+        }
     }
 }
