@@ -12,32 +12,44 @@ use Rattle.lola_bits.specs.Vector.{FitsWidth}
 power_split : (w top : ℕ) → w ≤ top → 2 ^ top ≡ 2 ^ (top - w) * 2 ^ w
 power_split w top h = let e : top - w + w ≡ top = omega arith in sym (ap (λ k. 2 ^ k) e) ∙ pow-add 2 (top - w) w
 
--- all ones of a width are those of a longer width, moved down
-pub ones_moved : (w top : ℕ) → w ≤ top → (2 ^ top - 1) / 2 ^ (top - w) ≡ 2 ^ w - 1
-ones_moved w top h = let e : top - (top - w) ≡ w = omega arith in ones_shr top (top - w) (omega arith) ∙ ap (λ k. 2 ^ k - 1) e
+-- all ones of a width are those of the longest width, 128, moved down
+pub ones_moved : (w : ℕ) → w ≤ 128 → (2 ^ 128 - 1) / 2 ^ (128 - w) ≡ 2 ^ w - 1
+ones_moved w h = let e : 128 - (128 - w) ≡ w = omega arith in ones_shr 128 (128 - w) (omega arith) ∙ ap (λ k. 2 ^ k - 1) e
 
 -- to cut a number to a longer width first changes nothing
-pub cut_twice : (n w top : ℕ) → w ≤ top → n % 2 ^ top % 2 ^ w ≡ n % 2 ^ w
+cut_twice : (n w top : ℕ) → w ≤ top → n % 2 ^ top % 2 ^ w ≡ n % 2 ^ w
 cut_twice n w top h = let e : top - w + w ≡ top = omega arith in ap (λ k. n % 2 ^ k % 2 ^ w) (sym e) ∙ mod-mod-pow n (top - w) w
+
+-- and so to cut it to the 128 bits of the longest width
+pub cut_after_128 : (n w : ℕ) → w ≤ 128 → n % 2 ^ 128 % 2 ^ w ≡ n % 2 ^ w
+cut_after_128 n w h = cut_twice n w 128 h
 
 -- a product is one of its factors and one time less
 one_less : (m p : ℕ) → 0 < m → m * p ≡ p + (m - 1) * p
 one_less m p h = let e : m ≡ 1 + (m - 1) = omega arith in omega (arith, ap (λ k. k * p) e ∙ add-mul 1 (m - 1) p)
 
 -- a difference that goes round at a longer width is the same at the width
-pub difference_cut : (x y w top : ℕ) → w ≤ top → y < 2 ^ w → (x + (2 ^ top - y)) % 2 ^ top % 2 ^ w ≡ difference w x y
+difference_cut : (x y w top : ℕ) → w ≤ top → y < 2 ^ w → (x + (2 ^ top - y)) % 2 ^ top % 2 ^ w ≡ difference w x y
 difference_cut x y w top h below =
     let split : 2 ^ top ≡ 2 ^ w + (2 ^ (top - w) - 1) * 2 ^ w = power_split w top h ∙ one_less (2 ^ (top - w)) (2 ^ w) (pow_pos (top - w)) in
     let e : x + (2 ^ top - y) ≡ 2 ^ w + x - y + (2 ^ (top - w) - 1) * 2 ^ w = omega arith in
     cut_twice (x + (2 ^ top - y)) w top h ∙ ap (λ n. n % 2 ^ w) e ∙ add-mul-mod_self_right (2 ^ w + x - y) (2 ^ (top - w) - 1) (2 ^ w)
 
--- a number moved up, with another put below it by `|`, is the two joined
-pub joined_is : (x y v w top : ℕ) → x < 2 ^ v → y < 2 ^ w → v + w ≤ top → bit_or (x * 2 ^ w % 2 ^ top) y ≡ joined x w y
-joined_is x y v w top p q h = rw (shl_whole x v w top p h) (or_shifted x w y q)
+-- and so one that goes round at 128 bits
+pub difference_after_128 : (x y w v : ℕ) → w ≤ 128 → FitsWidth v y → v ≡ w → (x + (2 ^ 128 - y)) % 2 ^ 128 % 2 ^ w ≡ difference w x y
+difference_after_128 x y w v h fits e = difference_cut x y w 128 h (subst (λ k. y < 2 ^ k) e fits.below)
 
--- what is joined is as wide as both together
-pub joined_below : (x y v w : ℕ) → x < 2 ^ v → y < 2 ^ w → joined x w y < 2 ^ (v + w)
-joined_below x y v w p q = let e : 2 ^ (v + w) ≡ 2 ^ w * 2 ^ v = ap (λ k. 2 ^ k) (add_comm v w) ∙ pow-add 2 w v in rw e (mul-add-lt x (2 ^ w) y (2 ^ v) p q)
+-- a number moved up, with another put below it by `|`, is the two joined
+pub joined_is : (x y v w : ℕ) → FitsWidth v x → FitsWidth w y → v + w ≤ 128 → bit_or (x * 2 ^ w % 2 ^ 128) y ≡ joined x w y
+joined_is x y v w p q h = rw (shl_whole x v w 128 p.below h) (or_shifted x w y q.below)
+
+-- it is as wide as both together
+pub joined_fits : (x y v w : ℕ) → FitsWidth v x → FitsWidth w y → v + w ≤ 128 → FitsWidth (v + w) (bit_or (x * 2 ^ w % 2 ^ 128) y)
+joined_fits x y v w p q h =
+    let positive : 1 ≤ v + w = omega (arith, p.positive) in
+    let power : 2 ^ (v + w) ≡ 2 ^ w * 2 ^ v = ap (λ k. 2 ^ k) (add_comm v w) ∙ pow-add 2 w v in
+    let below : joined x w y < 2 ^ (v + w) = rw power (mul-add-lt x (2 ^ w) y (2 ^ v) p.below q.below) in
+    record { positive = positive; at_most = h; below = rw (joined_is x y v w p q h) below }
 
 -- what is moved up by the width or more leaves nothing
 pub all_moved_up : (x n w : ℕ) → w ≤ n → moved_up w x n ≡ 0

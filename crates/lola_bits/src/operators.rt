@@ -5,6 +5,7 @@ ghost use Rattle.lola_bits.specs.Vector.{FitsWidth};
 use crate::vector::Bits;
 
 /// The number whose lowest `width` bits are 1 and whose others are 0.
+#[tactic(auto, using(crate::proofs::Numbers::ones_moved))]
 fn mask(width: u32) -> u128
     requires positive { 1 ≤ width }
     requires at_most { width ≤ 128 }
@@ -14,6 +15,7 @@ fn mask(width: u32) -> u128
 }
 
 /// The vector of the lowest `width` bits of a number.
+#[tactic(auto, using(std::proofs::lemmas::Nat::and_mask))]
 fn cut(width: u32, value: u128) -> Bits
     requires positive { 1 ≤ width }
     requires at_most { width ≤ 128 }
@@ -50,6 +52,7 @@ impl Bits {
 
     /// This vector with the bits of `low` below it: the widths are added, and come to at most 128
     /// bits. Takes no memory.
+    #[tactic(auto, using(crate::proofs::Numbers::joined_is, crate::proofs::Numbers::joined_fits))]
     pub fn concat(self, low: Bits) -> Bits
         requires fits { FitsWidth self.width self.value }
         requires low_fits { FitsWidth low.width low.value }
@@ -124,6 +127,7 @@ impl Bits {
 
     /// The sum of two numbers of one width, modulo 2 to the width: the carry out of the top bit is
     /// dropped. Takes no memory.
+    #[tactic(auto, using(crate::proofs::Numbers::cut_after_128))]
     pub fn add(self, other: Bits) -> Bits
         requires fits { FitsWidth self.width self.value }
         requires other_fits { FitsWidth other.width other.value }
@@ -136,6 +140,7 @@ impl Bits {
 
     /// This number less another of the same width, modulo 2 to the width: where the other is
     /// greater, the difference goes round. Takes no memory.
+    #[tactic(auto, using(crate::proofs::Numbers::difference_after_128))]
     pub fn sub(self, other: Bits) -> Bits
         requires fits { FitsWidth self.width self.value }
         requires other_fits { FitsWidth other.width other.value }
@@ -159,6 +164,7 @@ impl Bits {
     /// The bits moved up by as many places as the number `by` says, with 0 moved in from below; what
     /// is moved out at the top is dropped. `by` may be any number of any width: a move by the width
     /// or more leaves 0. Takes no memory.
+    #[tactic(auto, using(crate::proofs::Numbers::cut_after_128, crate::proofs::Numbers::all_moved_up))]
     pub fn shl(self, by: Bits) -> Bits
         requires fits { FitsWidth self.width self.value }
         requires by_fits { FitsWidth by.width by.value }
@@ -178,6 +184,7 @@ impl Bits {
     /// The bits moved down by as many places as the number `by` says, with 0 moved in from above;
     /// what is moved out at the bottom is dropped. `by` may be any number of any width: a move by
     /// the width or more leaves 0. Takes no memory.
+    #[tactic(auto, using(crate::proofs::Numbers::all_moved_down))]
     pub fn shr(self, by: Bits) -> Bits
         requires fits { FitsWidth self.width self.value }
         requires by_fits { FitsWidth by.width by.value }
@@ -196,6 +203,7 @@ impl Bits {
     }
 
     /// The number whose lowest `width` bits are copies of the vector's top bit.
+    #[tactic(auto, using(crate::proofs::Numbers::top_is_one))]
     fn top_copies(self) -> u128
         requires fits { FitsWidth self.width self.value }
         ensures { result ≡ self.value / 2 ^ (self.width - 1) * (2 ^ self.width - 1) }
@@ -211,6 +219,7 @@ impl Bits {
     /// moved in from above, so that a number with sign is divided and rounded down. `by` may be any
     /// number of any width: a move by the width or more leaves copies of the top bit alone. Takes no
     /// memory.
+    #[tactic(auto, using(crate::proofs::Numbers::filled_is, crate::proofs::Numbers::filled_below, crate::proofs::Numbers::all_filled))]
     pub fn asr(self, by: Bits) -> Bits
         requires fits { FitsWidth self.width self.value }
         requires by_fits { FitsWidth by.width by.value }
@@ -233,6 +242,7 @@ impl Bits {
     /// The bits turned down by as many places as the number `by` says, modulo the vector's width:
     /// what is moved out at the bottom comes in at the top. `by` may be any number of any width.
     /// Takes no memory.
+    #[tactic(auto, using(crate::proofs::Numbers::turned_by_none, crate::proofs::Numbers::turned_slices))]
     pub fn ror(self, by: Bits) -> Bits
         requires fits { FitsWidth self.width self.value }
         requires by_fits { FitsWidth by.width by.value }
