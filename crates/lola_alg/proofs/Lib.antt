@@ -1,0 +1,14 @@
+pub mod Bools
+pub mod Orders
+pub mod Moved
+pub mod MovedNumbers
+pub mod BitMeans
+pub mod ListMeans
+pub mod WordMeans
+pub mod ShiftMeans
+pub mod ArrayNumbers
+pub mod ArrayMeans
+pub mod OpMeans
+pub mod Loops
+pub mod Moves
+pub mod Elements
