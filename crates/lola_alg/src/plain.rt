@@ -3,6 +3,7 @@ ghost use Rattle.lola_alg.specs.Plain.{plain_calls, plain_meaning, plain_law};
 use crate::algebra::{AlgError, Algebra};
 
 /// The algebra over bool: each bit is its own value.
+#[derive(Clone, Copy, Debug)]
 pub struct Plain;
 
 impl Algebra for Plain {
