@@ -9,6 +9,7 @@ use Rattle.lola_alg.specs.Means.{AreWide}
 use Rattle.lola_alg.specs.Gates.{write_here}
 use Rattle.lola_alg.specs.Loops.{GoesOn}
 use Rattle.lola_alg.proofs.Loops.{goes_on_more}
+use Rattle.lola_alg.proofs.Moved.{each_append}
 
 -- where one of the steps has no place, all of them have none
 abbrev pub FailsWith : {D X : Type 0} → Option (D × X) → AlgError → Type 0
@@ -69,13 +70,9 @@ wide_at width [] at e within is all = absurd (omega arith)
 wide_at width (x ∷ elements) zero e within is all = ap length is ∙ all.0
 wide_at width (x ∷ elements) (suc at) e within is all = wide_at width elements at e (omega arith) is all.1
 
-wide_behind : {B : Type 0} (width : ℕ) (made : List (List B)) (z : List B) → AreWide width made → length z ≡ width → AreWide width (made ++ z ∷ [])
-wide_behind width [] z all one = (one, tt)
-wide_behind width (x ∷ made) z all one = (all.0, wide_behind width made z all.1 one)
-
 pub wide_more : {B : Type 0} (width : ℕ) (elements : List (List B)) (at : ℕ) (e : List B) (made : List (List B)) (z : List B) → at < length elements → e ≡ get_or elements at e →
     AreWide width elements → length z ≡ length e → AreWide width made → (items : List (List B)) → items ≡ made ++ z ∷ [] → AreWide width items
-wide_more width elements at e made z within is all long before items same = subst (AreWide width) (sym same) (wide_behind width made z before (long ∙ wide_at width elements at e within is all))
+wide_more width elements at e made z within is all long before items same = subst (AreWide width) (sym same) (each_append (λ e. length e ≡ width) made (z ∷ []) before (long ∙ wide_at width elements at e within is all, tt))
 
 -- one more element is written
 pub write_more : {D B : Type 0} (c : Calls D B) (place value : List B) (elements : List (List B)) (at : ℕ) (old : List B) (before now : D) (made : List (List B)) (whole : Option (D × List (List B)))

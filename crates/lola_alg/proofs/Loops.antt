@@ -1,5 +1,5 @@
 -- A loop over vectors makes the steps of the list, one after another.
-use Rattle.std.proofs.Common.{◌≡◌, ℕ, ◌+◌, ◌%◌, ◌^◌, ◌<◌, nat_eq, inl, inr, List, [], ◌∷◌, ◌++◌, length, drop, get_or, Option, Some, None, refl, sym, ap, ap₂, subst, ◌∙◌, append_assoc, length-append}
+use Rattle.std.proofs.Common.{◌≡◌, ℕ, ◌+◌, ◌%◌, ◌^◌, ◌<◌, true, nat_eq, inl, inr, List, [], ◌∷◌, ◌++◌, length, drop, get_or, Option, Some, None, refl, sym, ap, ap₂, subst, ◌∙◌, append_assoc, length-append}
 use Rattle.std.proofs.lemmas.List.{drop_more}
 use Rattle.std.proofs.lemmas.Bool.{cases_Bool}
 use Rattle.std.specs.List.{AllByRecursion}
@@ -8,6 +8,7 @@ use Rattle.lola_alg.specs.Algebra.{Calls, Meaning, Stays, Keeps}
 use Rattle.lola_alg.specs.Steps.{Step, into, each_step, pairs_step, adder_step, carry_step, turns_step}
 use Rattle.lola_alg.specs.Means.{AreKnown}
 use Rattle.lola_alg.specs.Loops.{GoesOn, Keeping}
+use Rattle.lola_alg.proofs.Moved.{each_append}
 
 -- one more is made
 pub goes_on_more : {D X : Type 0} (whole : Option (D × List X)) (made : List X) (x : X) (rest : Option (D × List X)) →
@@ -70,24 +71,16 @@ module _ {D B : Type 0} (m : Meaning D B) where
   pub stays_then : (a b c : D) → Stays m a b → Stays m b c → Stays m a c
   stays_then a b c p q = λ x known. let one = p x known in let two = q x one.0 in (two.0, λ v. two.1 v ∙ one.1 v)
 
-  both_known : (d : D) (xs ys : List B) → AreKnown m d xs → AreKnown m d ys → AreKnown m d (xs ++ ys)
-  both_known d [] ys p q = q
-  both_known d (x ∷ xs) ys p q = (p.0, both_known d xs ys p.1 q)
-
   pub keeping_more : (before mid now : D) (made : List B) (x : B) → Keeping m before mid made → Keeps m mid now x → (items : List B) → items ≡ made ++ x ∷ [] → Keeping m before now items
   keeping_more before mid now made x k one items all = subst (Keeping m before now) (sym all) (record {
     stays = stays_then before mid now k.stays one.0;
-    known = both_known now made (x ∷ []) (stay_known mid now made one.0 k.known) (one.1, tt);
+    known = each_append (λ b. m.knows now b ≡ true) made (x ∷ []) (stay_known mid now made one.0 k.known) (one.1, tt);
   })
 
   pub stay_known_all : (before now : D) (vectors : List (List B)) → Stays m before now → AllByRecursion (AreKnown m before) vectors → AllByRecursion (AreKnown m now) vectors
   stay_known_all before now [] stays known = tt
   stay_known_all before now (v ∷ vectors) stays known = (stay_known before now v stays known.0, stay_known_all before now vectors stays known.1)
 
-  one_more_known : (d : D) (vectors : List (List B)) (v : List B) → AllByRecursion (AreKnown m d) vectors → AreKnown m d v → AllByRecursion (AreKnown m d) (vectors ++ v ∷ [])
-  one_more_known d [] v known one = (one, tt)
-  one_more_known d (w ∷ vectors) v known one = (known.0, one_more_known d vectors v known.1 one)
-
   pub array_more : (before now : D) (made : List (List B)) (v : List B) → Stays m before now → AllByRecursion (AreKnown m before) made → AreKnown m now v → (items : List (List B)) →
       items ≡ made ++ v ∷ [] → AllByRecursion (AreKnown m now) items
-  array_more before now made v stays known one items all = subst (AllByRecursion (AreKnown m now)) (sym all) (one_more_known now made v (stay_known_all before now made stays known) one)
+  array_more before now made v stays known one items all = subst (AllByRecursion (AreKnown m now)) (sym all) (each_append (AreKnown m now) made (v ∷ []) (stay_known_all before now made stays known) (one, tt))

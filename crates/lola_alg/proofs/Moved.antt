@@ -42,7 +42,7 @@ map_turned f n xs =
 
 -- what holds of each element holds of each that was moved
 module _ {X : Type 0} (P : X → Type 0) where
-  each_append : (xs ys : List X) → AllByRecursion P xs → AllByRecursion P ys → AllByRecursion P (xs ++ ys)
+  pub each_append : (xs ys : List X) → AllByRecursion P xs → AllByRecursion P ys → AllByRecursion P (xs ++ ys)
   each_append [] ys p q = q
   each_append (x ∷ xs) ys p q = (p.0, each_append xs ys p.1 q)
 

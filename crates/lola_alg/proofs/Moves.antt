@@ -9,6 +9,7 @@ use Rattle.lola_alg.specs.Algebra.{Meaning}
 use Rattle.lola_alg.specs.Means.{AreKnown}
 use Rattle.lola_alg.specs.Steps.{moved_down, highest, moved_filled}
 use Rattle.lola_alg.specs.Gates.{move_of, IsKnownMove}
+use Rattle.lola_alg.proofs.Moved.{up_long, down_long, each_up, each_down, each_filled}
 
 -- the highest bit of a vector, again and again
 pub highest_long : {B : Type 0} (x : B) (xs : List B) (n : ℕ) → length (highest (x ∷ xs) n) ≡ n
@@ -42,14 +43,8 @@ move_least (Down fill) n xs = ap₂ (λ ys m. ys ++ replicate m fill) (drop_leas
 move_least Filled n xs = ap₂ (λ ys m. ys ++ highest xs m) (drop_least n xs) (least_twice n (length xs))
 
 pub move_long : {B : Type 0} (way : Move B) (n : ℕ) (xs : List B) → length (move_of way n xs) ≡ length xs
-move_long (Up fill) n xs =
-    length-take-le (length xs) (replicate (min n (length xs)) fill ++ xs)
-    (let long = length-append (replicate (min n (length xs)) fill) xs in omega arith)
-move_long (Down fill) n xs =
-    let long = length-append (drop n xs) (replicate (min n (length xs)) fill) in
-    let back = length-drop n xs in
-    let front = length-replicate (min n (length xs)) fill in
-    omega arith
+move_long (Up fill) n xs = up_long fill n xs
+move_long (Down fill) n xs = down_long fill n xs
 move_long Filled n [] = let back : drop n [] ≡ [] = drop_all n [] (omega arith) in ap (λ ys. length (ys ++ [])) back
 move_long Filled n (x ∷ xs) =
     let long = length-append (drop n (x ∷ xs)) (highest (x ∷ xs) (min n (length (x ∷ xs)))) in
@@ -57,39 +52,8 @@ move_long Filled n (x ∷ xs) =
     let front = highest_long x xs (min n (length (x ∷ xs))) in
     omega arith
 
-module _ {X : Type 0} (P : X → Type 0) where
-  all_both : (xs ys : List X) → AllByRecursion P xs → AllByRecursion P ys → AllByRecursion P (xs ++ ys)
-  all_both [] ys p q = q
-  all_both (x ∷ xs) ys p q = (p.0, all_both xs ys p.1 q)
-
-  all_take : (n : ℕ) (xs : List X) → AllByRecursion P xs → AllByRecursion P (take n xs)
-  all_take zero xs p = tt
-  all_take (suc n) [] p = tt
-  all_take (suc n) (x ∷ xs) p = (p.0, all_take n xs p.1)
-
-  all_drop : (n : ℕ) (xs : List X) → AllByRecursion P xs → AllByRecursion P (drop n xs)
-  all_drop zero xs p = p
-  all_drop (suc n) [] p = tt
-  all_drop (suc n) (x ∷ xs) p = all_drop n xs p.1
-
-  all_copies : (n : ℕ) (x : X) → P x → AllByRecursion P (replicate n x)
-  all_copies zero x p = tt
-  all_copies (suc n) x p = (p, all_copies n x p)
-
-  all_highest : (xs : List X) (n : ℕ) → AllByRecursion P xs → AllByRecursion P (highest xs n)
-  all_highest [] n p = tt
-  all_highest (x ∷ []) n p = all_copies n x p.0
-  all_highest (x ∷ y ∷ more) n p = all_highest (y ∷ more) n p.1
-
-  pub all_turned : (n : ℕ) (xs : List X) → AllByRecursion P xs → AllByRecursion P (drop n xs ++ take n xs)
-  all_turned n xs p = all_both (drop n xs) (take n xs) (all_drop n xs p) (all_take n xs p)
-
 -- what moves, and what comes in, is known
 pub move_known : {D B : Type 0} (m : Meaning D B) (d : D) (way : Move B) (n : ℕ) (xs : List B) → IsKnownMove m d way → AreKnown m d xs → AreKnown m d (move_of way n xs)
-move_known m d (Up fill) n xs k p =
-    all_take (λ b. m.knows d b ≡ true) (length xs) (replicate (min n (length xs)) fill ++ xs)
-    (all_both (λ b. m.knows d b ≡ true) (replicate (min n (length xs)) fill) xs (all_copies (λ b. m.knows d b ≡ true) (min n (length xs)) fill k) p)
-move_known m d (Down fill) n xs k p =
-    all_both (λ b. m.knows d b ≡ true) (drop n xs) (replicate (min n (length xs)) fill) (all_drop (λ b. m.knows d b ≡ true) n xs p) (all_copies (λ b. m.knows d b ≡ true) (min n (length xs)) fill k)
-move_known m d Filled n xs k p =
-    all_both (λ b. m.knows d b ≡ true) (drop n xs) (highest xs (min n (length xs))) (all_drop (λ b. m.knows d b ≡ true) n xs p) (all_highest (λ b. m.knows d b ≡ true) xs (min n (length xs)) p)
+move_known m d (Up fill) n xs k p = each_up (λ b. m.knows d b ≡ true) fill n xs k p
+move_known m d (Down fill) n xs k p = each_down (λ b. m.knows d b ≡ true) fill n xs k p
+move_known m d Filled n xs k p = each_filled (λ b. m.knows d b ≡ true) n xs p
