@@ -1,0 +1,5 @@
+pub mod Capped
+pub mod Faults
+pub mod Least
+pub mod Naming
+pub mod Taking

@@ -1,0 +1,9 @@
+use Rattle.std.proofs.Common.{arith}
+use Rattle.std.proofs.lemmas.List.{drop_more}
+use Rattle.lola_width.proofs.Faults.{first_append}
+use Rattle.lola_width.proofs.types.note_ports.Goals as goal
+
+pub loop-port-preserved : goal.loop-port-preserved
+loop-port-preserved c =
+    let cut = drop_more c.args.ports.now c.loop-port.port-index c.port-item.result (omega arith) in
+    rw (c.in_ok-note_type.ensures, c.text.ensures, ← c.loop-port.invariant, cut, ← c.port-item.is) (simp first_append)

@@ -1,0 +1,9 @@
+use Rattle.std.proofs.Common.{◌≡◌, drop}
+use Rattle.lola_width.specs.NameFaults.{port_faults}
+use Rattle.lola_width.specs.Order.{first_after}
+use Rattle.lola_width.specs.Table.{found}
+use Rattle.lola_width.proofs.types.note_ports.Given as goal
+
+abbrev pub invariant-loop-port : goal.invariant-loop-port
+invariant-loop-port l =
+    first_after l.first (port_faults (found l.table) (drop l.port-index l.ports)) ≡ first_after l.fn.first (port_faults (found l.table) l.ports)

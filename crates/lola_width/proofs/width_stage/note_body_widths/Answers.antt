@@ -1,0 +1,9 @@
+use Rattle.std.proofs.Common.{arith}
+use Rattle.std.proofs.lemmas.List.{drop_more}
+use Rattle.lola_width.proofs.Faults.{first_append}
+use Rattle.lola_width.proofs.width_stage.note_body_widths.Goals as goal
+
+pub loop-stmt-preserved : goal.loop-stmt-preserved
+loop-stmt-preserved c =
+    let cut = drop_more c.args.body.now c.loop-stmt.stmt-index c.stmt-item.result (omega arith) in
+    rw (c.note_stmt_widths.ensures, ← c.loop-stmt.invariant, cut, ← c.stmt-item.is) (simp first_append)

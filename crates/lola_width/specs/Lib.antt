@@ -1,0 +1,9 @@
+pub mod Answered
+pub mod AssignmentFaults
+pub mod Capped
+pub mod Interface
+pub mod NameFaults
+pub mod Order
+pub mod Sized
+pub mod Table
+pub mod WidthFaults
