@@ -9,8 +9,9 @@ use Rattle.lola_tree.specs.declared.module.LocalKind.TheVariants.{Reg, Var, Inst
 use Rattle.lola_tree.specs.declared.module.Local.{Local}
 use Rattle.lola_elab.proofs.Lists.{from_map, to_map, from_filter, distinct_front, distinct_back}
 use Rattle.lola_tree.specs.Tree.{ModuleTree, SourceTree}
+use Rattle.lola_tree.specs.Names as Names
 use Rattle.lola_tree.specs.Value.{Path, Values}
-use Rattle.lola_tree.specs.Cycle.{IsIn, IsRegisterOf, IsInputOf, IsRegister, IsInput, IsState, IsGiven, Cycle, Next}
+use Rattle.lola_tree.specs.Cycle.{IsIn, IsRoot, IsRegisterOf, IsInputOf, IsRegister, IsInput, IsState, IsGiven, Cycle, Next}
 use Rattle.lola_tree.specs.Signals.{is_inward, is_among, clock_names, name_of_register, input_names, register_names, values_of, root_inputs, root_registers}
 use Rattle.lola_elab.specs.Logic.{AreBits}
 use Rattle.lola_elab.specs.Small.{AreDistinct, names_of, IsSmallSource}
@@ -109,6 +110,7 @@ pub behaves : (S : SourceTree) (claim : Claim) → Elaborates S claim.design →
 behaves S claim made =
     let small = made.small in
     let m = small.root in
+    let root : IsRoot S m = ([], small.only) in
     record {
       inputs_are = ap root_inputs small.only ∙ sym made.inputs;
       registers_are = ap root_registers small.only ∙ sym made.registers;
@@ -123,10 +125,10 @@ behaves S claim made =
           (made.nexts v s' leaves (cycle_values S small s inp v cycle ∙ there ∙ are) next);
       state_low = λ s state name among.
           let r = registers_lead S small name (subst (λ (xs : List (List ℕ)). IsIn name xs) made.registers among) in
-          below_two r.0 (s (name ∷ [])) (register_bit m r.1.name r.1.clock r.0 small.small (register_type S small (name ∷ []) r.0 r.1)) (state (name ∷ []) r.0 r.1);
+          below_two (Names.names_of m) r.0 (s (name ∷ [])) (register_bit m r.1.name r.1.clock r.0 small.small (register_type S small (name ∷ []) r.0 r.1)) (state m root (name ∷ []) r.0 r.1);
       given_low = λ inp given name among.
           let i = inputs_lead S small name (subst (λ (xs : List (List ℕ)). IsIn name xs) made.inputs among) in
-          below_two i.0 (inp (name ∷ [])) (port_bit m i.1.name i.0 small.small (input_type S small (name ∷ []) i.0 i.1)) (given (name ∷ []) i.0 i.1);
-      low_state = λ s low path type r. suits_bit type (s path) (register_bit m r.name r.clock type small.small (register_type S small path type r)) (low path);
-      low_given = λ inp low path type i. suits_bit type (inp path) (port_bit m i.name type small.small (input_type S small path type i)) (low path);
+          below_two (Names.names_of m) i.0 (inp (name ∷ [])) (port_bit m i.1.name i.0 small.small (input_type S small (name ∷ []) i.0 i.1)) (given m root (name ∷ []) i.0 i.1);
+      low_state = λ s low n is_root path type r. suits_bit (Names.names_of n) type (s path) (register_bit m r.name r.clock type small.small (register_type S small path type r)) (low path);
+      low_given = λ inp low n is_root path type i. suits_bit (Names.names_of n) type (inp path) (port_bit m i.name type small.small (input_type S small path type i)) (low path);
     }

@@ -6,14 +6,14 @@ use Rattle.lola_elab.proofs.Lists.{from_filter}
 use Rattle.std.proofs.lemmas.List.{length-take-le, take-append-drop}
 use Rattle.std.proofs.Common.{length-drop}
 use Rattle.lola_tree.specs.Tree.{SourceTree}
-use Rattle.lola_tree.specs.Value.{Values, value}
+use Rattle.lola_tree.specs.Value.{Values}
 use Rattle.lola_tree.specs.Cycle.{IsIn, IsState, IsGiven, Cycle, Next}
 use Rattle.lola_tree.specs.Signals.{values_of, root_inputs, root_registers}
 use Rattle.lola_elab.specs.Logic.{logic_value, bit_number, AreBits}
 use Rattle.lola_elab.specs.Elaborated.{HasOneCycle}
 use Rattle.tab_tree.specs.declared.table.Active.{Active}
 use Rattle.tab_tree.specs.Table.{active_value, idle_value, StateTree, SetTree, ClassTree, TableTree}
-use Rattle.tab_tree.specs.Step.{fits, source_names, no_names, class_names, state_value, set_value, loaded_word}
+use Rattle.tab_tree.specs.Step.{fits, source_names, no_names, class_names, state_value, set_value, loaded_word, table_value}
 use Rattle.lola_app.specs.declared.claim.Claim.{Claim}
 use Rattle.lola_app.specs.declared.claim.State.{State}
 use Rattle.lola_app.specs.declared.claim.Start.{Start}
@@ -143,8 +143,8 @@ module _ (S : SourceTree) (T : TableTree) (claim : Claim) (does : Behaves S clai
   -- the premises, told by their test
   premises_told : (s inp : Values) (leaves : List Bool) → AreLeaves (face_of claim.design) s inp leaves → IsTold (premises claim leaves) (Premises T is.small.class s)
   premises_told s inp leaves are =
-      let one = told_one (value T.invariant (source_names s)) (logic_value claim.invariant leaves) (is.invariant s inp leaves are) in
-      let two = told_one (value T.boundary (source_names s)) (logic_value claim.boundary leaves) (is.boundary s inp leaves are) in
+      let one = told_one (table_value T.invariant (source_names s)) (logic_value claim.invariant leaves) (is.invariant s inp leaves are) in
+      let two = told_one (table_value T.boundary (source_names s)) (logic_value claim.boundary leaves) (is.boundary s inp leaves are) in
       let three : fits is.small.class.pattern 0 ≡ place_fits claim.pattern false = ap (λ (p : List ℕ). fits p 0) is.pattern ∙ and_true (place_fits claim.pattern false) in
       record {
         yes = λ on.
@@ -211,24 +211,24 @@ module _ (S : SourceTree) (T : TableTree) (claim : Claim) (does : Behaves S clai
   -- the goals
   pub reset_invariant : IsResetTold goal.Invariant invariant
   reset_invariant s inp v s' leaves are cycle next =
-      told_one (value T.invariant (source_names s')) (logic_value claim.invariant (next_leaves claim leaves)) (is.invariant s' inp (next_leaves claim leaves) (next_are s inp v s' leaves are cycle next))
+      told_one (table_value T.invariant (source_names s')) (logic_value claim.invariant (next_leaves claim leaves)) (is.invariant s' inp (next_leaves claim leaves) (next_are s inp v s' leaves are cycle next))
 
   pub reset_boundary : IsResetTold goal.Boundary boundary
   reset_boundary s inp v s' leaves are cycle next =
-      told_one (value T.boundary (source_names s')) (logic_value claim.boundary (next_leaves claim leaves)) (is.boundary s' inp (next_leaves claim leaves) (next_are s inp v s' leaves are cycle next))
+      told_one (table_value T.boundary (source_names s')) (logic_value claim.boundary (next_leaves claim leaves)) (is.boundary s' inp (next_leaves claim leaves) (next_are s inp v s' leaves are cycle next))
 
   pub end_invariant : IsEndTold is.small.class goal.Invariant invariant
   end_invariant s inp v s' leaves are cycle next =
-      told_one (value T.invariant (source_names s')) (logic_value claim.invariant (next_leaves claim leaves)) (is.invariant s' inp (next_leaves claim leaves) (next_are s inp v s' leaves are cycle next))
+      told_one (table_value T.invariant (source_names s')) (logic_value claim.invariant (next_leaves claim leaves)) (is.invariant s' inp (next_leaves claim leaves) (next_are s inp v s' leaves are cycle next))
 
   pub end_boundary : IsEndTold is.small.class goal.Boundary boundary
   end_boundary s inp v s' leaves are cycle next =
-      told_one (value T.boundary (source_names s')) (logic_value claim.boundary (next_leaves claim leaves)) (is.boundary s' inp (next_leaves claim leaves) (next_are s inp v s' leaves are cycle next))
+      told_one (table_value T.boundary (source_names s')) (logic_value claim.boundary (next_leaves claim leaves)) (is.boundary s' inp (next_leaves claim leaves) (next_are s inp v s' leaves are cycle next))
 
   pub reset_start : (number : ℕ) (row : SetTree) (one : Start) → slice_get claim.starts.items number ≡ Some one → IsClaimedStart (face_of claim.design) T row one → IsResetTold (goal.State number) (start row)
   reset_start number row one at claimed s inp v s' leaves are cycle next =
       rw at
-      (told_same (state_value T.states (shown T s') row.name) (value row.value no_names) (next_leaf claim one.leaf leaves) (logic_value one.value leaves)
+      (told_same (state_value T.states (shown T s') row.name) (table_value row.value no_names) (next_leaf claim one.leaf leaves) (logic_value one.value leaves)
       (claimed.state_is s' inp (next_leaves claim leaves) (next_are s inp v s' leaves are cycle next) ∙ ap bit_number (next_leaf_is s inp leaves one.leaf are claimed.behind))
       (claimed.value_is leaves))
 
@@ -236,8 +236,8 @@ module _ (S : SourceTree) (T : TableTree) (claim : Claim) (does : Behaves S clai
       IsEndTold is.small.class (goal.State number) (state row)
   end_state number row one at claimed s inp v s' leaves are cycle next =
       rw at
-      (told_same (value row.shown (source_names s'))
-      (set_value is.small.class.sets row.name (value row.shown (source_names s)) (class_names T (shown T s) 0 (loaded_word is.small.class (answer_of T inp))))
+      (told_same (table_value row.shown (source_names s'))
+      (set_value is.small.class.sets row.name (table_value row.shown (source_names s)) (class_names T (shown T s) 0 (loaded_word is.small.class (answer_of T inp))))
       (next_leaf claim one.leaf leaves) (logic_value one.set leaves)
       (claimed.shown_is s' inp (next_leaves claim leaves) (next_are s inp v s' leaves are cycle next) ∙ ap bit_number (next_leaf_is s inp leaves one.leaf are claimed.behind))
       (claimed.set_is s inp leaves are))

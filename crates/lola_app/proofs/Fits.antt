@@ -4,14 +4,14 @@ use Rattle.std.specs.Prelude.{string_bytes, Option, slice_index_or, bytes_eq}
 use Rattle.std.specs.List.{AllByRecursion}
 use Rattle.lola_tree.specs.declared.named.Ref.{Ref}
 use Rattle.lola_tree.specs.Tree.{Tree}
-use Rattle.lola_tree.specs.Value.{Values, value}
+use Rattle.lola_tree.specs.Value.{Values}
 use Rattle.lola_elab.specs.declared.logic.Logic.{Logic}
 use Rattle.lola_elab.specs.declared.scope.Scope.{Scope}
 use Rattle.lola_elab.specs.Logic.{logic_value, bit_number}
 use Rattle.lola_elab.specs.Scope.{HasReading, Reads}
 use Rattle.lola_elab.specs.Small.{IsSmallExpr}
 use Rattle.tab_tree.specs.Table.{StateTree, SetTree, ClassTree, TableTree}
-use Rattle.tab_tree.specs.Step.{source_names, class_names, set_value, loaded_word}
+use Rattle.tab_tree.specs.Step.{source_names, class_names, set_value, loaded_word, table_value}
 use Rattle.lola_app.specs.declared.claim.Claim.{Claim}
 use Rattle.lola_app.specs.declared.claim.State.{State}
 use Rattle.lola_app.specs.declared.claim.Start.{Start}
@@ -32,7 +32,7 @@ use Rattle.lola_app.proofs.Orders.{either}
 
 -- an expression that was read in a scope means the same over the leaves
 read_in : (face : Interface) (Names : Ref → Type 0) (names : Values → Values → Ref → ℕ) (scope : Scope) (e : Tree) (logic : Logic) → IsScope face Names names scope →
-    ((n : Ref → ℕ) (leaves : List Bool) → Reads scope n leaves → value e n ≡ bit_number (logic_value logic leaves)) → MeansBit face (λ s inp. value e (names s inp)) (logic_value logic)
+    ((n : Ref → ℕ) (leaves : List Bool) → Reads scope n leaves → table_value e n ≡ bit_number (logic_value logic leaves)) → MeansBit face (λ s inp. table_value e (names s inp)) (logic_value logic)
 read_in face Names names scope e logic is means s inp leaves are = means (names s inp) leaves (is.reads s inp leaves are)
 
 -- rows over the names of a scope
@@ -57,8 +57,8 @@ claimed_each face T c scope (row ∷ rows) (x ∷ states) (y ∷ claimed) each s
     behind = let e : y.leaf ≡ length face.inputs + each.0.place = sets.0.leaf ∙ each.0.leaf in omega arith;
     shown_is = λ s inp leaves are. shown_value face row x s inp leaves each.0 are ∙ ap (λ n. bit_number (slice_index_or leaves n false)) (sym sets.0.leaf);
     set_is = λ s inp leaves are.
-        ap (λ (name : List ℕ). set_value c.sets name (value row.shown (source_names s)) (class_names T (shown T s) 0 (loaded_word c (answer_of T inp)))) (sym each.0.named)
-        ∙ sets.0.set (class_names T (shown T s) 0 (loaded_word c (answer_of T inp))) leaves (value row.shown (source_names s)) (is.reads s inp leaves are) (shown_value face row x s inp leaves each.0 are);
+        ap (λ (name : List ℕ). set_value c.sets name (table_value row.shown (source_names s)) (class_names T (shown T s) 0 (loaded_word c (answer_of T inp)))) (sym each.0.named)
+        ∙ sets.0.set (class_names T (shown T s) 0 (loaded_word c (answer_of T inp))) leaves (table_value row.shown (source_names s)) (is.reads s inp leaves are) (shown_value face row x s inp leaves each.0 are);
   },
   claimed_each face T c scope rows states claimed each.1 sets.1 is,
 )
@@ -110,8 +110,8 @@ pub record Parts (face : Interface) (T : TableTree) (c : ClassTree) (place : ℕ
   pub class_has : HasClassNames taken states names
   pub small_invariant : IsSmallExpr (HasReading registers) T.invariant
   pub small_boundary : IsSmallExpr (HasReading registers) T.boundary
-  pub means_invariant : (n : Ref → ℕ) (leaves : List Bool) → Reads registers n leaves → value T.invariant n ≡ bit_number (logic_value invariant leaves)
-  pub means_boundary : (n : Ref → ℕ) (leaves : List Bool) → Reads registers n leaves → value T.boundary n ≡ bit_number (logic_value boundary leaves)
+  pub means_invariant : (n : Ref → ℕ) (leaves : List Bool) → Reads registers n leaves → table_value T.invariant n ≡ bit_number (logic_value invariant leaves)
+  pub means_boundary : (n : Ref → ℕ) (leaves : List Bool) → Reads registers n leaves → table_value T.boundary n ≡ bit_number (logic_value boundary leaves)
   pub small_sets : AreSmallRows (map (λ (x : Shown). string_bytes x.name) states) (HasReading names) c.sets
   pub sets_are : AreEach (IsSetState c.sets names) states claimed
   pub small_starts : AreSmallRows (map (λ (x : Shown). string_bytes x.name) states) IsNoName T.starts

@@ -9,6 +9,7 @@ mod Readings
 mod Refusals
 mod ScopeMeans
 mod SetRows
+mod TableBits
 mod ShownStates
 mod Theorem
 mod Behaves

@@ -3,7 +3,7 @@ use Rattle.std.proofs.Common.{◌≡◌, ℕ, zero, suc, ◌+◌, Bool, true, fa
 use Rattle.std.specs.Prelude.{bytes_eq, string_bytes, if◌then◌else◌, Option, slice_index_or}
 use Rattle.lola_tree.specs.declared.named.Ref.{Ref}
 use Rattle.lola_tree.specs.Tree.{Tree, number, whole, bit, slice, index, concat, negation, binary, choice}
-use Rattle.lola_tree.specs.Value.{Path, Values, value}
+use Rattle.lola_tree.specs.Value.{Path, Values}
 use Rattle.lola_tree.specs.Cycle.{IsIn}
 use Rattle.lola_tree.specs.Signals.{values_of}
 use Rattle.lola_elab.specs.declared.scope.Reading.{Reading}
@@ -17,7 +17,7 @@ use Rattle.lola_elab.specs.Scope.{find, find_path, reading_of, HasReading, readi
 use Rattle.lola_elab.specs.Small.{IsSmallExpr}
 use Rattle.lola_elab.proofs.Lists.{same_name, is_same_name}
 use Rattle.tab_tree.specs.Table.{StateTree}
-use Rattle.tab_tree.specs.Step.{source_names, state_value}
+use Rattle.tab_tree.specs.Step.{source_names, state_value, table_value}
 use Rattle.lola_app.specs.declared.states.Shown.{Shown}
 use Rattle.lola_app.specs.Claiming.{AreEach, AreLeaves}
 use Rattle.lola_app.specs.Naming.{IsAt}
@@ -200,7 +200,7 @@ registers_scope face scope has = record {
     reads s inp leaves are (name ∷ other ∷ more) one some = absurd (not_none one some)
 
 -- the value of a state's row is that of its leaf
-shown_name : (e : Tree) (name : List ℕ) (s : Values) → IsSourceName e name → value e (source_names s) ≡ s (name ∷ [])
+shown_name : (e : Tree) (name : List ℕ) (s : Values) → IsSourceName e name → table_value e (source_names s) ≡ s (name ∷ [])
 shown_name (whole of) name s is = rw is.0 (ap s is.1)
 shown_name (number n width at) name s is = absurd is
 shown_name (negation e at) name s is = absurd is
@@ -212,7 +212,7 @@ shown_name (index of place at) name s is = absurd is
 shown_name (concat parts at) name s is = absurd is
 
 pub shown_value : (face : Interface) (row : StateTree) (state : Shown) (s inp : Values) (leaves : List Bool) → IsShown face row state → AreLeaves face s inp leaves →
-    value row.shown (source_names s) ≡ bit_number (slice_index_or leaves state.leaf false)
+    table_value row.shown (source_names s) ≡ bit_number (slice_index_or leaves state.leaf false)
 shown_value face row state s inp leaves is are =
     shown_name row.shown is.register s is.shows ∙ register_value face s inp leaves is.place is.register are is.at ∙ ap (λ n. bit_number (slice_index_or leaves n false)) (sym is.leaf)
 
@@ -220,7 +220,7 @@ shown_value face row state s inp leaves is are =
 pub record IsEntered (face : Interface) (rows : List StateTree) (states : List Shown) (name : List ℕ) (leaf : ℕ) : Type 0 where
   pub among : IsIn name (map (λ (row : StateTree). row.name) rows)
   pub value_is : (s inp : Values) (leaves : List Bool) → AreLeaves face s inp leaves →
-      state_value rows (map (λ (row : StateTree). value row.shown (source_names s)) rows) name ≡ bit_number (slice_index_or leaves leaf false)
+      state_value rows (map (λ (row : StateTree). table_value row.shown (source_names s)) rows) name ≡ bit_number (slice_index_or leaves leaf false)
 
 pub entered_under : (face : Interface) (rows : List StateTree) (states : List Shown) (name : List ℕ) (leaf : ℕ) → AreEach (IsShown face) rows states → leaf_under states name ≡ Some leaf →
     IsEntered face rows states name leaf

@@ -3,13 +3,12 @@ use Rattle.std.proofs.Common.{◌≡◌, ℕ, ◌<◌, Bool, true, false, List, 
 use Rattle.std.specs.Prelude.{bytes_eq, string_bytes, if◌then◌else◌, Option}
 use Rattle.lola_tree.specs.declared.named.Ref.{Ref}
 use Rattle.lola_tree.specs.Tree.{tree}
-use Rattle.lola_tree.specs.Value.{value}
 use Rattle.lola_tree.specs.Cycle.{IsIn}
 use Rattle.lola_elab.proofs.Lists.{same_name, is_same_name}
 use Rattle.lola_elab.proofs.Steps.{drop_item}
 use Rattle.tab_tree.specs.declared.table.SetRow.{SetRow}
 use Rattle.tab_tree.specs.Table.{set_tree}
-use Rattle.tab_tree.specs.Step.{set_value}
+use Rattle.tab_tree.specs.Step.{set_value, table_value}
 use Rattle.lola_app.specs.declared.states.Shown.{Shown}
 use Rattle.std.specs.List.{AllByRecursion}
 use Rattle.tab_tree.specs.Table.{SetTree}
@@ -21,7 +20,7 @@ use Rattle.lola_app.proofs.Orders.{either}
 
 -- the row at an index sets the state, and those before it don't count
 pub at_row : (rows : List SetRow) (i : ℕ) (row : SetRow) (name : List ℕ) (old : ℕ) (names : Ref → ℕ) → i < length rows → row ≡ get_or rows i row → bytes_eq row.name name ≡ true →
-    set_value (map set_tree (drop i rows)) name old names ≡ value (tree row.value) names
+    set_value (map set_tree (drop i rows)) name old names ≡ table_value (tree row.value) names
 at_row rows i row name old names within is e = ap (λ (xs : List SetRow). set_value (map set_tree xs) name old names) (drop_item rows i row within is) ∙ rw e refl
 
 pub taken_on : (b : Bool) (l : Option ℕ) (leaf : ℕ) → b ≡ true → l ≡ Some leaf → Some leaf ≡ (if b then l else None)

@@ -5,11 +5,11 @@ use Rattle.std.specs.List.{AllByRecursion}
 use Rattle.std.proofs.lemmas.List.{length-take-le}
 use Rattle.lola_tree.specs.declared.named.Ref.{Ref}
 use Rattle.lola_tree.specs.Tree.{SourceTree}
-use Rattle.lola_tree.specs.Value.{Values, value}
+use Rattle.lola_tree.specs.Value.{Values}
 use Rattle.lola_tree.specs.Cycle.{IsIn, IsState, IsGiven, Cycle, Next, Run, input_at}
 use Rattle.lola_elab.specs.Small.{IsSmallSource}
 use Rattle.tab_tree.specs.Table.{StateTree, SetTree, ClassTree, TableTree}
-use Rattle.tab_tree.specs.Step.{Arch, Answer, IsClass, fits, source_names, no_names, class_names, state_value, set_value, set_states, cycles_of, answer_at, loaded_word, Boundary, first, after, Access, idle}
+use Rattle.tab_tree.specs.Step.{Arch, Answer, IsClass, fits, source_names, no_names, class_names, state_value, set_value, set_states, cycles_of, answer_at, loaded_word, Boundary, first, after, Access, idle, table_value}
 use Rattle.lola_app.specs.Accepts.{Fits}
 use Rattle.lola_app.specs.Headline.{shown, shown_word, Shows, IsIdle, is_unstalled, unstalled, answer_of, answers_of, Sees, Starts, Commutes, Resets}
 use Rattle.lola_app.specs.Obligations.{start, state, reset, ends, class_obligations, Valuation, Premises, HoldsAlways, AllHold}
@@ -72,8 +72,8 @@ states_are keeps S inputs s v small run given at_first (suc c) within =
 
 -- the states after an instruction, row by row
 shown_next : (sets : List SetTree) (rows : List StateTree) (s s' : Values) (names : Ref → ℕ) →
-    AllByRecursion (λ (row : StateTree). value row.shown (source_names s') ≡ set_value sets row.name (value row.shown (source_names s)) names) rows →
-    map (λ (row : StateTree). value row.shown (source_names s')) rows ≡ set_states rows (map (λ (row : StateTree). value row.shown (source_names s)) rows) sets names
+    AllByRecursion (λ (row : StateTree). table_value row.shown (source_names s') ≡ set_value sets row.name (table_value row.shown (source_names s)) names) rows →
+    map (λ (row : StateTree). table_value row.shown (source_names s')) rows ≡ set_states rows (map (λ (row : StateTree). table_value row.shown (source_names s)) rows) sets names
 shown_next sets [] s s' names all = refl
 shown_next sets (row ∷ rows) s s' names all = ap₂ (λ (a : ℕ) (as' : List ℕ). a ∷ as') all.0 (shown_next sets rows s s' names all.1)
 
@@ -101,7 +101,7 @@ resets S T all = record {
       states = refl;
       code = refl;
     },
-    weaker (λ (row : SetTree). HoldsAlways S T (reset (start row))) (λ (row : SetTree). state_value T.states (shown T s') row.name ≡ value row.value no_names)
+    weaker (λ (row : SetTree). HoldsAlways S T (reset (start row))) (λ (row : SetTree). state_value T.states (shown T s') row.name ≡ table_value row.value no_names)
         (λ row holds'. holds' (at s inp) (is.state, is.given, is.active) v s' is.cycle is.next) T.starts (of_reset S T all),
   );
   accesses = λ s inp v s' is access none. absurd none;
@@ -114,7 +114,7 @@ step S T all c s inp v s' A word is given still cycle next class shows =
     let obliged = of_class S T all c class.listed in
     let premises : Premises T c s = record { invariant = shows.invariant; boundary = shows.boundary; fit = subst (λ w. fits c.pattern w ≡ true) (sym shows.code) class.fit } in
     let rows = weaker (λ (row : StateTree). HoldsAlways S T (ends c 0 (state row)))
-    (λ (row : StateTree). value row.shown (source_names s') ≡ set_value c.sets row.name (value row.shown (source_names s)) (class_names T (shown T s) (shown_word T s) (loaded_word c (answer_of T inp))))
+    (λ (row : StateTree). table_value row.shown (source_names s') ≡ set_value c.sets row.name (table_value row.shown (source_names s)) (class_names T (shown T s) (shown_word T s) (loaded_word c (answer_of T inp))))
     (λ row holds'. holds' (at s inp) (is, given, still) v s' cycle next premises) T.states (all_mapped (HoldsAlways S T) (λ (row : StateTree). ends c 0 (state row)) T.states obliged.1.1) in
     record {
       invariant = obliged.0 (at s inp) (is, given, still) v s' cycle next premises;

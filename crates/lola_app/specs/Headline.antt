@@ -4,14 +4,14 @@
 use Rattle.std.specs.Prelude.{◌≡◌, ◌⊎◌, ℕ, ◌-◌, ◌<◌, ◌≤◌, Bool, true, List, [], ◌∷◌, length, take, map, Option, Some, None, filter}
 use Rattle.std.specs.List.{AllByRecursion}
 use Rattle.lola_tree.specs.Tree.{SourceTree}
-use Rattle.lola_tree.specs.Value.{Values, value}
+use Rattle.lola_tree.specs.Value.{Values}
 use Rattle.lola_tree.specs.Cycle.{IsState, IsGiven, Cycle, Next, Run, input_at}
 use Rattle.tab_tree.specs.Table.{active_value, idle_value, StateTree, SetTree, ClassTree, TableTree}
-use Rattle.tab_tree.specs.Step.{Arch, Answer, IsInside, source_names, no_names, state_value, Boundary, Access, idle, IsStartAccess, Row}
+use Rattle.tab_tree.specs.Step.{Arch, Answer, IsInside, source_names, no_names, state_value, Boundary, Access, idle, IsStartAccess, Row, table_value}
 
 -- the states that a state of the design shows
 abbrev pub shown : TableTree → Values → Arch
-shown T s = map (λ (row : StateTree). value row.shown (source_names s)) T.states
+shown T s = map (λ (row : StateTree). table_value row.shown (source_names s)) T.states
 
 -- the word that it shows; without CODE it is 0
 abbrev pub shown_word : TableTree → Values → ℕ
@@ -19,8 +19,8 @@ shown_word T s = 0
 
 -- a state of the design is at a boundary, and shows these states and this word
 pub record Shows (T : TableTree) (s : Values) (A : Arch) (word : ℕ) : Type 0 where
-  pub invariant : value T.invariant (source_names s) ≡ 1
-  pub boundary : value T.boundary (source_names s) ≡ 1
+  pub invariant : table_value T.invariant (source_names s) ≡ 1
+  pub boundary : table_value T.boundary (source_names s) ≡ 1
   pub states : shown T s ≡ A
   pub code : shown_word T s ≡ word
 
@@ -85,7 +85,7 @@ pub record Commutes (S : SourceTree) (T : TableTree) : Type 0 where
 
 -- each START row is met
 abbrev pub MeetsStart : TableTree → Arch → Type 0
-MeetsStart T A = AllByRecursion (λ (row : SetTree). state_value T.states A row.name ≡ value row.value no_names) T.starts
+MeetsStart T A = AllByRecursion (λ (row : SetTree). state_value T.states A row.name ≡ table_value row.value no_names) T.starts
 
 -- a reset cycle of a design: from a state, under an input with RESET active and no stall, to the state
 -- behind it

@@ -2,11 +2,11 @@
 use Rattle.std.specs.Prelude.{◌≡◌, ◌⊎◌, ℕ, ◌^◌, ◌<◌, true, not, List, [], ◌∷◌, ◌++◌, map, filter, flat_map, bytes_eq, codes, decimal}
 use Rattle.std.specs.List.{AllByRecursion}
 use Rattle.lola_tree.specs.Tree.{SourceTree}
-use Rattle.lola_tree.specs.Value.{Values, value}
+use Rattle.lola_tree.specs.Value.{Values}
 use Rattle.lola_tree.specs.Cycle.{IsState, IsGiven, Cycle, Next}
 use Rattle.lola_tree.specs.Signals.{root_inputs, root_registers, values_of}
 use Rattle.tab_tree.specs.Table.{StateTree, SetTree, ClassTree, TableTree}
-use Rattle.tab_tree.specs.Step.{fits, IsClass, word_width, source_names, no_names, class_names, state_value, set_value, loaded_word}
+use Rattle.tab_tree.specs.Step.{fits, IsClass, word_width, source_names, no_names, class_names, state_value, set_value, loaded_word, table_value}
 use Rattle.lola_app.specs.Headline.{shown, shown_word, IsActive, IsIdle, answer_of}
 
 -- what an obligation says of the next state: the invariant, a boundary, the value of a START row, or
@@ -59,24 +59,24 @@ IsValuation S T (ends c phase goal) w = IsState S w.state × IsGiven S w.input �
 
 -- a goal after a reset cycle, at the next state
 abbrev pub ResetGoal : TableTree → Values → Goal → Type 0
-ResetGoal T s' invariant = value T.invariant (source_names s') ≡ 1
-ResetGoal T s' boundary = value T.boundary (source_names s') ≡ 1
-ResetGoal T s' (start row) = state_value T.states (shown T s') row.name ≡ value row.value no_names
+ResetGoal T s' invariant = table_value T.invariant (source_names s') ≡ 1
+ResetGoal T s' boundary = table_value T.boundary (source_names s') ≡ 1
+ResetGoal T s' (start row) = state_value T.states (shown T s') row.name ≡ table_value row.value no_names
 ResetGoal T s' (state row) = Unit {0}
 
 -- a goal at the end of an instruction, at the state before the cycle, its input and the next state
 abbrev pub EndGoal : TableTree → ClassTree → Values → Values → Values → Goal → Type 0
-EndGoal T c s inp s' invariant = value T.invariant (source_names s') ≡ 1
-EndGoal T c s inp s' boundary = value T.boundary (source_names s') ≡ 1
+EndGoal T c s inp s' invariant = table_value T.invariant (source_names s') ≡ 1
+EndGoal T c s inp s' boundary = table_value T.boundary (source_names s') ≡ 1
 EndGoal T c s inp s' (start row) = Unit {0}
 EndGoal T c s inp s' (state row) =
-    value row.shown (source_names s')
-    ≡ set_value c.sets row.name (value row.shown (source_names s)) (class_names T (shown T s) (shown_word T s) (loaded_word c (answer_of T inp)))
+    table_value row.shown (source_names s')
+    ≡ set_value c.sets row.name (table_value row.shown (source_names s)) (class_names T (shown T s) (shown_word T s) (loaded_word c (answer_of T inp)))
 
 -- the premises of a class's phase 0: the invariant, the boundary, and that the pattern fits the word
 pub record Premises (T : TableTree) (c : ClassTree) (s : Values) : Type 0 where
-  pub invariant : value T.invariant (source_names s) ≡ 1
-  pub boundary : value T.boundary (source_names s) ≡ 1
+  pub invariant : table_value T.invariant (source_names s) ≡ 1
+  pub boundary : table_value T.boundary (source_names s) ≡ 1
   pub fit : fits c.pattern (shown_word T s) ≡ true
 
 -- an obligation holds at a valuation: a class fits the word; or in the cycle of that state and input

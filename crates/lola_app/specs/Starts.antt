@@ -1,10 +1,9 @@
 -- The rows of START by the leaves of the states that they set.
 use Rattle.std.specs.Prelude.{◌≡◌, ℕ, Bool, if◌then◌else◌, List, [], ◌∷◌, Option, Some, None, bytes_eq, string_bytes}
-use Rattle.lola_tree.specs.Value.{value}
 use Rattle.lola_elab.specs.Logic.{logic_value, bit_number}
 use Rattle.lola_elab.specs.Small.{IsSmallExpr}
 use Rattle.tab_tree.specs.Table.{SetTree}
-use Rattle.tab_tree.specs.Step.{no_names}
+use Rattle.tab_tree.specs.Step.{no_names, table_value}
 use Rattle.lola_app.specs.declared.states.Shown.{Shown}
 use Rattle.lola_app.specs.declared.claim.Start.{Start}
 use Rattle.lola_app.specs.Small.{IsNoName}
@@ -19,4 +18,4 @@ pub record IsStartRow (states : List Shown) (row : SetTree) (start : Start) : Ty
   pub named : string_bytes start.name ≡ row.name
   pub leaf : leaf_under states row.name ≡ Some start.leaf
   pub small : IsSmallExpr IsNoName row.value
-  pub value_is : (leaves : List Bool) → value row.value no_names ≡ bit_number (logic_value start.value leaves)
+  pub value_is : (leaves : List Bool) → table_value row.value no_names ≡ bit_number (logic_value start.value leaves)

@@ -1,4 +1,6 @@
+pub mod BitWidths
 pub mod Bits
+pub mod Entries
 pub mod LeafNumbers
 pub mod LeafScope
 pub mod Lists

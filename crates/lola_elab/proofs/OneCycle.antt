@@ -5,7 +5,9 @@ use Rattle.std.proofs.lemmas.Bool.{cond-true, cond-false}
 use Rattle.lola_tree.specs.declared.named.Ref.{Ref}
 use Rattle.lola_tree.specs.declared.named.Shape.{Shape}
 use Rattle.lola_tree.specs.Tree.{Tree, number, whole, bit, slice, index, concat, negation, binary, choice, StmtTree, assignment, call, pad, ModuleTree, SourceTree}
-use Rattle.lola_tree.specs.Value.{Path, Values, value, operate}
+use Rattle.lola_bits.specs.Number.{inverted, operate}
+use Rattle.lola_tree.specs.Width.{Scope as Widths, width, scope_of}
+use Rattle.lola_tree.specs.Value.{Path, Values, value, or_zero, or_read}
 use Rattle.lola_tree.specs.Cycle.{IsIn, IsRoot, IsRegisterOf, IsRegister, IsInputOf, IsInput, IsState, IsGiven, names_at, Equation, Cycle, Next, NextBy}
 use Rattle.lola_tree.specs.Signals.{is_among, register_names, IsSignal, register, input, output}
 use Rattle.lola_elab.specs.Small.{IsSmallExpr, IsLeaf, IsReadable, IsTarget, IsSmallStmt, target_of, AreDistinct, IsSmallModule, IsSmallSource}
@@ -15,43 +17,44 @@ use Rattle.lola_elab.proofs.Lists.{of_all, to_map, from_map, same_name, other_na
 use Rattle.lola_elab.proofs.Names.{is_register, register_listed, input_no_target, output_no_register}
 
 -- expressions have one value where their names have
-pub value_agrees : (P : Ref → Type 0) (v w : Ref → ℕ) → ((r : Ref) → P r → v r ≡ w r) → (e : Tree) → IsSmallExpr P e → value e v ≡ value e w
-value_agrees P v w same (number n width at) is = refl
-value_agrees P v w same (whole of) is = same of is
-value_agrees P v w same (negation e at) is = ap (λ n. 1 - n) (value_agrees P v w same e is)
-value_agrees P v w same (binary o a b at) is = ap₂ (operate o) (value_agrees P v w same a is.1) (value_agrees P v w same b is.2)
-value_agrees P v w same (choice test first second at) is = absurd is
-value_agrees P v w same (bit of place at) is = absurd is
-value_agrees P v w same (slice of high low at) is = absurd is
-value_agrees P v w same (index of place at) is = absurd is
-value_agrees P v w same (concat parts at) is = absurd is
+pub value_agrees : (P : Ref → Type 0) (widths : Widths) (v w : Ref → ℕ) → ((r : Ref) → P r → v r ≡ w r) → (e : Tree) → IsSmallExpr P e → value widths e v ≡ value widths e w
+value_agrees P widths v w same (number n width at) is = refl
+value_agrees P widths v w same (whole of) is = ap (or_read (widths.number of)) (same of is)
+value_agrees P widths v w same (negation e at) is = ap (inverted (or_zero (width widths e))) (value_agrees P widths v w same e is)
+value_agrees P widths v w same (binary o a b at) is =
+    ap₂ (operate o (or_zero (width widths a))) (value_agrees P widths v w same a is.1) (value_agrees P widths v w same b is.2)
+value_agrees P widths v w same (choice test first second at) is = absurd is
+value_agrees P widths v w same (bit of place at) is = absurd is
+value_agrees P widths v w same (slice of high low at) is = absurd is
+value_agrees P widths v w same (index of place at) is = absurd is
+value_agrees P widths v w same (concat parts at) is = absurd is
 
 -- the value that a statement assigns
-abbrev assigns : Values → StmtTree → ℕ
-assigns v (assignment name place e at equals) = value e (names_at [] v)
-assigns v (call name args at) = 0
-assigns v (pad io inner drive release at) = 0
+abbrev assigns : Widths → Values → StmtTree → ℕ
+assigns widths v (assignment name place e at equals) = value widths e (names_at [] v)
+assigns widths v (call name args at) = 0
+assigns widths v (pad io inner drive release at) = 0
 
 -- the value that the first of some statements assigns to a name, or else a number
-abbrev assigned : List StmtTree → Values → ℕ → List ℕ → ℕ
-assigned [] v other name = other
-assigned (t ∷ ts) v other name = cond (bytes_eq (target_of t) name) (assigns v t) (assigned ts v other name)
+abbrev assigned : Widths → List StmtTree → Values → ℕ → List ℕ → ℕ
+assigned widths [] v other name = other
+assigned widths (t ∷ ts) v other name = cond (bytes_eq (target_of t) name) (assigns widths v t) (assigned widths ts v other name)
 
-assigned_here : (ts : List StmtTree) (v : Values) (other : ℕ) (t : StmtTree) → AreDistinct (map target_of ts) → IsIn t ts → assigned ts v other (target_of t) ≡ assigns v t
-assigned_here [] v other t distinct is = absurd is
-assigned_here (u ∷ us) v other t distinct (inl same) =
-    cond-true (bytes_eq (target_of u) (target_of t)) (assigns v u) (assigned us v other (target_of t)) (same_name (target_of u) (target_of t) (ap target_of (sym same)))
-    ∙ ap (assigns v) (sym same)
-assigned_here (u ∷ us) v other t distinct (inr later) =
+assigned_here : (widths : Widths) (ts : List StmtTree) (v : Values) (other : ℕ) (t : StmtTree) → AreDistinct (map target_of ts) → IsIn t ts → assigned widths ts v other (target_of t) ≡ assigns widths v t
+assigned_here widths [] v other t distinct is = absurd is
+assigned_here widths (u ∷ us) v other t distinct (inl same) =
+    cond-true (bytes_eq (target_of u) (target_of t)) (assigns widths v u) (assigned widths us v other (target_of t)) (same_name (target_of u) (target_of t) (ap target_of (sym same)))
+    ∙ ap (assigns widths v) (sym same)
+assigned_here widths (u ∷ us) v other t distinct (inr later) =
     let apart : target_of u ≢ target_of t = λ e. distinct.0 (subst (λ (n : List ℕ). IsIn n (map target_of us)) (sym e) (to_map target_of t us later)) in
-    cond-false (bytes_eq (target_of u) (target_of t)) (assigns v u) (assigned us v other (target_of t)) (other_name (target_of u) (target_of t) apart)
-    ∙ assigned_here us v other t distinct.1 later
+    cond-false (bytes_eq (target_of u) (target_of t)) (assigns widths v u) (assigned widths us v other (target_of t)) (other_name (target_of u) (target_of t) apart)
+    ∙ assigned_here widths us v other t distinct.1 later
 
-assigned_not : (ts : List StmtTree) (v : Values) (other : ℕ) (name : List ℕ) → (IsIn name (map target_of ts) → ⊥) → assigned ts v other name ≡ other
-assigned_not [] v other name none = refl
-assigned_not (u ∷ us) v other name none =
-    cond-false (bytes_eq (target_of u) name) (assigns v u) (assigned us v other name) (other_name (target_of u) name (λ e. none (inl (sym e))))
-    ∙ assigned_not us v other name (λ is. none (inr is))
+assigned_not : (widths : Widths) (ts : List StmtTree) (v : Values) (other : ℕ) (name : List ℕ) → (IsIn name (map target_of ts) → ⊥) → assigned widths ts v other name ≡ other
+assigned_not widths [] v other name none = refl
+assigned_not widths (u ∷ us) v other name none =
+    cond-false (bytes_eq (target_of u) name) (assigns widths v u) (assigned widths us v other name) (other_name (target_of u) name (λ e. none (inl (sym e))))
+    ∙ assigned_not widths us v other name (λ is. none (inr is))
 
 -- a number for each name, as one for each path
 abbrev by_name : (List ℕ → ℕ) → Values
@@ -68,7 +71,7 @@ before m s inp = by_name (given_value m s inp)
 
 -- the values in a cycle
 abbrev cycle_value : ModuleTree → Values → Values → List ℕ → ℕ
-cycle_value m s inp name = cond (is_among (register_names m.locals) name) (s (name ∷ [])) (assigned m.body (before m s inp) (inp (name ∷ [])) name)
+cycle_value m s inp name = cond (is_among (register_names m.locals) name) (s (name ∷ [])) (assigned (scope_of m) m.body (before m s inp) (inp (name ∷ [])) name)
 
 abbrev in_cycle : ModuleTree → Values → Values → Values
 in_cycle m s inp = by_name (cycle_value m s inp)
@@ -89,16 +92,16 @@ assigned_target m (pad io inner drive release at) is = absurd is
 -- the values at a register and at an input
 at_register : (m : ModuleTree) (s inp : Values) (name clock : List ℕ) (type : Shape) → IsRegisterOf m name clock type → cycle_value m s inp name ≡ s (name ∷ [])
 at_register m s inp name clock type r =
-    cond-true (is_among (register_names m.locals) name) (s (name ∷ [])) (assigned m.body (before m s inp) (inp (name ∷ [])) name) (a_register m name clock type r)
+    cond-true (is_among (register_names m.locals) name) (s (name ∷ [])) (assigned (scope_of m) m.body (before m s inp) (inp (name ∷ [])) name) (a_register m name clock type r)
 
-at_other : (m : ModuleTree) (s inp : Values) (name : List ℕ) → ((clock : List ℕ) (type : Shape) → IsRegisterOf m name clock type → ⊥) → cycle_value m s inp name ≡ assigned m.body (before m s inp) (inp (name ∷ [])) name
+at_other : (m : ModuleTree) (s inp : Values) (name : List ℕ) → ((clock : List ℕ) (type : Shape) → IsRegisterOf m name clock type → ⊥) → cycle_value m s inp name ≡ assigned (scope_of m) m.body (before m s inp) (inp (name ∷ [])) name
 at_other m s inp name none =
-    cond-false (is_among (register_names m.locals) name) (s (name ∷ [])) (assigned m.body (before m s inp) (inp (name ∷ [])) name) (no_register m name none)
+    cond-false (is_among (register_names m.locals) name) (s (name ∷ [])) (assigned (scope_of m) m.body (before m s inp) (inp (name ∷ [])) name) (no_register m name none)
 
 at_input : (m : ModuleTree) (s inp : Values) (name : List ℕ) (type : Shape) → IsSmallModule m → IsInputOf m name type → cycle_value m s inp name ≡ inp (name ∷ [])
 at_input m s inp name type small i =
     at_other m s inp name (λ clock other r. input_no_target m name type small.distinct i (inr (clock, other, r)))
-    ∙ assigned_not m.body (before m s inp) (inp (name ∷ [])) name (λ is.
+    ∙ assigned_not (scope_of m) m.body (before m s inp) (inp (name ∷ [])) name (λ is.
     let found = from_map target_of name m.body is in
     let t = found.0 in
     input_no_target m name type small.distinct i
@@ -124,8 +127,8 @@ leaf_same m s inp small r (bare, (name, path, readable)) =
 equation : (m : ModuleTree) (s inp : Values) → IsSmallModule m → (t : StmtTree) → IsIn t m.body → IsSmallStmt m t → Equation m [] (in_cycle m s inp) t
 equation m s inp small (assignment name None e at equals) is (target, expr) = λ none.
     at_other m s inp name none
-    ∙ assigned_here m.body (before m s inp) (inp (name ∷ [])) (assignment name None e at equals) small.once is
-    ∙ value_agrees (IsLeaf m) (names_at [] (before m s inp)) (names_at [] (in_cycle m s inp)) (leaf_same m s inp small) e expr
+    ∙ assigned_here (scope_of m) m.body (before m s inp) (inp (name ∷ [])) (assignment name None e at equals) small.once is
+    ∙ value_agrees (IsLeaf m) (scope_of m) (names_at [] (before m s inp)) (names_at [] (in_cycle m s inp)) (leaf_same m s inp small) e expr
 equation m s inp small (assignment name (Some place) e at equals) is wrong = absurd wrong
 equation m s inp small (call name args at) is wrong = absurd wrong
 equation m s inp small (pad io inner drive release at) is wrong = absurd wrong
@@ -162,7 +165,7 @@ both_read S m s inp v w root c d r (bare, (name, path, inr (clock, type, g))) =
 
 both_assigned : (m : ModuleTree) (v w : Values) (t : StmtTree) → ((r : Ref) → IsLeaf m r → names_at [] v r ≡ names_at [] w r) → IsSmallStmt m t → ((clock : List ℕ) (type : Shape) → IsRegisterOf m (target_of t) clock type → ⊥) → Equation m [] v t → Equation m [] w t → v (target_of t ∷ []) ≡ w (target_of t ∷ [])
 both_assigned m v w (assignment name None e at equals) same is none first second =
-    first none ∙ value_agrees (IsLeaf m) (names_at [] v) (names_at [] w) same e is.1 ∙ sym (second none)
+    first none ∙ value_agrees (IsLeaf m) (scope_of m) (names_at [] v) (names_at [] w) same e is.1 ∙ sym (second none)
 both_assigned m v w (assignment name (Some place) e at equals) same is none first second = absurd is
 both_assigned m v w (call name args at) same is none first second = absurd is
 both_assigned m v w (pad io inner drive release at) same is none first second = absurd is
@@ -184,8 +187,8 @@ same_signal S small s inp v w c d path (output o) =
     ap v there ∙ e ∙ ap w (sym there)
 
 -- the state behind a cycle
-next_here : (m : ModuleTree) (v : Values) → AreDistinct (map target_of m.body) → (t : StmtTree) → IsIn t m.body → NextBy m [] v (by_name (assigned m.body v 0)) t
-next_here m v once (assignment name place e at equals) is = λ clock type r. assigned_here m.body v 0 (assignment name place e at equals) once is
+next_here : (m : ModuleTree) (v : Values) → AreDistinct (map target_of m.body) → (t : StmtTree) → IsIn t m.body → NextBy m [] v (by_name (assigned (scope_of m) m.body v 0)) t
+next_here m v once (assignment name place e at equals) is = λ clock type r. assigned_here (scope_of m) m.body v 0 (assignment name place e at equals) once is
 next_here m v once (call name args at) is = tt
 next_here m v once (pad io inner drive release at) is = tt
 
@@ -215,8 +218,8 @@ has_one_cycle S small s inp state given =
       cycle = (in_cycle m s inp, a_cycle S small s inp);
       same = same_signal S small s inp;
       next = λ v. (
-        by_name (assigned m.body v 0),
-        λ n root. at_root S m n (λ (n : ModuleTree). (t : StmtTree) → IsIn t n.body → NextBy n [] v (by_name (assigned m.body v 0)) t) small.only root
+        by_name (assigned (scope_of m) m.body v 0),
+        λ n root. at_root S m n (λ (n : ModuleTree). (t : StmtTree) → IsIn t n.body → NextBy n [] v (by_name (assigned (scope_of m) m.body v 0)) t) small.only root
             (next_here m v small.small.once),
       );
       same_next = same_next S small;

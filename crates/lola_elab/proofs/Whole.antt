@@ -12,6 +12,7 @@ use Rattle.lola_tree.specs.declared.module.Way.TheVariants.{Inward, Outward, Bot
 use Rattle.lola_tree.specs.declared.module.Port.{Port}
 use Rattle.lola_tree.specs.declared.module.Local.{Local}
 use Rattle.lola_tree.specs.Tree.{Tree, number, whole, bit, slice, index, concat, negation, binary, choice, StmtTree, assignment, call, pad, ModuleTree}
+use Rattle.lola_tree.specs.Width.{scope_of}
 use Rattle.lola_tree.specs.Value.{Values}
 use Rattle.lola_tree.specs.Cycle.{IsIn, names_at, Next, NextBy}
 use Rattle.lola_tree.specs.Signals.{is_among, input_names, register_names, values_of}
@@ -20,7 +21,7 @@ use Rattle.lola_elab.specs.declared.logic.Logic.{Logic}
 use Rattle.lola_elab.specs.declared.scope.Scope.{Scope}
 use Rattle.lola_elab.specs.declared.signals.Signals.{Signals}
 use Rattle.lola_elab.specs.Logic.{logic_value, bit_number, AreBits}
-use Rattle.lola_elab.specs.Scope.{HasReading}
+use Rattle.lola_elab.specs.Scope.{HasReading, AreBitNames}
 use Rattle.lola_elab.specs.Small.{IsSmallExpr, IsSmallKind, IsReadable, IsLeaf, IsTarget, IsSmallStmt, target_of, IsSmallModule}
 use Rattle.lola_elab.specs.Elaborated.{leaf_names, Elaborates}
 use Rattle.lola_elab.specs.Declares.{port_names, local_names, first_clock, Declares}
@@ -28,6 +29,7 @@ use Rattle.lola_elab.specs.Leaves.{IsLeafScope}
 use Rattle.lola_elab.specs.Assigned.{is_outward, target_names, IsWhole, AssignsOnce, IsSmallValue, IsNextOf, AreNexts, IsWellAssigned, HasNexts}
 use Rattle.lola_elab.specs.Modules.{one_module}
 use Rattle.lola_elab.proofs.Lists.{of_all, all_of, to_map, from_map, in_front, in_back, in_either, in_filter, from_filter, among, is_in}
+use Rattle.lola_elab.proofs.Bits.{leaf_bits}
 use Rattle.lola_elab.proofs.Names.{is_register, register_listed, is_input, input_listed}
 use Rattle.lola_elab.proofs.OneCycle.{assigned_target}
 use Rattle.lola_elab.proofs.WellDeclared.{reg_of, kinds_of, one_clock, clock_port}
@@ -131,23 +133,29 @@ small_module m s scope names logics d leaf h =
       few_signals = d.declared.few_signals;
     }
 
+-- what has a reading is one bit wide
+read_bits : (m : ModuleTree) (scope : Scope) → IsSmallModule m → IsLeafScope scope (leaf_names m) → AreBitNames (HasReading scope) (scope_of m)
+read_bits m scope small leaf =
+    let bits = leaf_bits m small in
+    record { width = λ r read. bits.width r (leaf_of m scope leaf r read); number = λ r read. bits.number r (leaf_of m scope leaf r read) }
+
 -- the values that were read are those of the next state
-next_value : (m : ModuleTree) (scope : Scope) (v s' : Values) (leaves : List Bool) → IsLeafScope scope (leaf_names m) → AreBits (values_of v (leaf_names m)) leaves → Next (one_module m) v s' →
+next_value : (m : ModuleTree) (scope : Scope) → IsSmallModule m → (v s' : Values) (leaves : List Bool) → IsLeafScope scope (leaf_names m) → AreBits (values_of v (leaf_names m)) leaves → Next (one_module m) v s' →
     (name : List ℕ) (logic : Logic) → IsIn name (register_names m.locals) → IsNextOf scope m.body name logic → s' (name ∷ []) ≡ bit_number (logic_value logic leaves)
-next_value m scope v s' leaves leaf are next name logic is n =
+next_value m scope small v s' leaves leaf are next name logic is n =
     let r = is_register m name is in
     let by = subst (λ (t : StmtTree). NextBy m [] v s' t) n.assigns.is (next m ([], refl) n.statement n.there) in
-    by r.0 r.1 r.2 ∙ n.means (names_at [] v) leaves (reads scope (leaf_names m) v leaves leaf are)
+    by r.0 r.1 r.2 ∙ n.means (scope_of m) (read_bits m scope small leaf) (names_at [] v) leaves (reads scope (leaf_names m) v leaves leaf are)
 
-next_values : (m : ModuleTree) (scope : Scope) (v s' : Values) (leaves : List Bool) → IsLeafScope scope (leaf_names m) → AreBits (values_of v (leaf_names m)) leaves → Next (one_module m) v s' →
+next_values : (m : ModuleTree) (scope : Scope) → IsSmallModule m → (v s' : Values) (leaves : List Bool) → IsLeafScope scope (leaf_names m) → AreBits (values_of v (leaf_names m)) leaves → Next (one_module m) v s' →
     (names : List (List ℕ)) (logics : List Logic) → ((name : List ℕ) → IsIn name names → IsIn name (register_names m.locals)) → AreNexts scope m.body names logics →
     AreBits (values_of s' names) (map (λ (l : Logic). logic_value l leaves) logics)
-next_values m scope v s' leaves leaf are next [] [] each nexts = refl
-next_values m scope v s' leaves leaf are next [] (l ∷ ls) each nexts = absurd nexts
-next_values m scope v s' leaves leaf are next (x ∷ xs) [] each nexts = absurd nexts
-next_values m scope v s' leaves leaf are next (x ∷ xs) (l ∷ ls) each nexts =
-    ap₂ (λ (a : ℕ) (b : List ℕ). a ∷ b) (next_value m scope v s' leaves leaf are next x l (each x (inl refl)) nexts.0)
-    (next_values m scope v s' leaves leaf are next xs ls (λ name later. each name (inr later)) nexts.1)
+next_values m scope small v s' leaves leaf are next [] [] each nexts = refl
+next_values m scope small v s' leaves leaf are next [] (l ∷ ls) each nexts = absurd nexts
+next_values m scope small v s' leaves leaf are next (x ∷ xs) [] each nexts = absurd nexts
+next_values m scope small v s' leaves leaf are next (x ∷ xs) (l ∷ ls) each nexts =
+    ap₂ (λ (a : ℕ) (b : List ℕ). a ∷ b) (next_value m scope small v s' leaves leaf are next x l (each x (inl refl)) nexts.0)
+    (next_values m scope small v s' leaves leaf are next xs ls (λ name later. each name (inr later)) nexts.1)
 
 -- a module in the small form has no statement that is refused
 all_small : (m : ModuleTree) (scope : Scope) → IsLeafScope scope (leaf_names m) → IsSmallModule m → AllByRecursion (IsSmallValue scope) m.body
@@ -181,12 +189,13 @@ elaborates m s scope xs ys zs d declares x y z leaf has root inputs registers =
     let leaf' = leaves_are m s scope xs ys declares x y leaf in
     let names : map string_bytes zs ≡ register_names m.locals = ap (map string_bytes) z ∙ declares.registers in
     let has' = subst (λ (n : List (List ℕ)). HasNexts m scope n d.nexts.items) names has in
+    let small = small_module m s scope (register_names m.locals) d.nexts.items declares leaf' has' in
     record {
-      small = record { root = m; only = refl; small = small_module m s scope (register_names m.locals) d.nexts.items declares leaf' has' };
+      small = record { root = m; only = refl; small = small };
       root = root;
       inputs = ap (λ (v : Vec (String Global) Global). map string_bytes v.items) inputs ∙ declares.inputs;
       registers = ap (λ (v : Vec (String Global) Global). map string_bytes v.items) registers ∙ declares.registers;
-      nexts = λ v s' leaves are next. next_values m scope v s' leaves leaf' are next (register_names m.locals) d.nexts.items (λ name is. is) has'.nexts;
+      nexts = λ v s' leaves are next. next_values m scope small v s' leaves leaf' are next (register_names m.locals) d.nexts.items (λ name is. is) has'.nexts;
     }
 
 -- a module in the small form is not refused

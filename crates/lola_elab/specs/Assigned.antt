@@ -7,13 +7,14 @@ use Rattle.lola_tree.specs.declared.module.Way.TheVariants.{Inward, Outward, Bot
 use Rattle.lola_tree.specs.declared.module.Port.{Port}
 use Rattle.lola_tree.specs.declared.module.Local.{Local}
 use Rattle.lola_tree.specs.Tree.{Tree, StmtTree, assignment, call, pad, ModuleTree}
+use Rattle.lola_tree.specs.Width.{Scope as Widths}
 use Rattle.lola_tree.specs.Value.{value}
 use Rattle.lola_tree.specs.Cycle.{IsIn}
 use Rattle.lola_tree.specs.Signals.{is_among}
 use Rattle.lola_elab.specs.declared.logic.Logic.{Logic}
 use Rattle.lola_elab.specs.declared.scope.Scope.{Scope}
 use Rattle.lola_elab.specs.Logic.{logic_value, bit_number}
-use Rattle.lola_elab.specs.Scope.{HasReading, Reads}
+use Rattle.lola_elab.specs.Scope.{HasReading, Reads, AreBitNames}
 use Rattle.lola_elab.specs.Small.{IsSmallExpr, target_of, AreDistinct}
 use Rattle.lola_elab.specs.Declares.{port_names, local_names}
 
@@ -54,9 +55,11 @@ IsSmallValue scope (assignment name (Some place) e at equals) = ⊥
 IsSmallValue scope (call name args at) = ⊥
 IsSmallValue scope (pad io inner drive release at) = ⊥
 
--- an expression over leaves has a tree's value, whatever the leaves' values are
+-- an expression over leaves has a tree's value where the names are bits, whatever the leaves' values are
 abbrev pub Means : Scope → Tree → Logic → Type 0
-Means scope e logic = (names : Ref → ℕ) (leaves : List Bool) → Reads scope names leaves → value e names ≡ bit_number (logic_value logic leaves)
+Means scope e logic =
+    (widths : Widths) → AreBitNames (HasReading scope) widths → (names : Ref → ℕ) (leaves : List Bool) → Reads scope names leaves →
+    value widths e names ≡ bit_number (logic_value logic leaves)
 
 -- an expression over leaves is what one of the statements assigns to a name
 pub record IsNextOf (scope : Scope) (ts : List StmtTree) (name : List ℕ) (logic : Logic) : Type 0 where

@@ -1,6 +1,7 @@
 -- What names mean where an expression over leaves stands.
 use Rattle.std.specs.Prelude.{◌≡◌, ℕ, Bool, if◌then◌else◌, List, [], ◌∷◌, Option, Some, None, slice_index_or, bytes_eq, string_bytes, false}
 use Rattle.lola_tree.specs.declared.named.Ref.{Ref}
+use Rattle.lola_tree.specs.Width.{Scope as Widths}
 use Rattle.lola_elab.specs.declared.scope.Reading.{Reading}
 use Rattle.lola_elab.specs.declared.scope.Reading.TheVariants as reading
 use Rattle.lola_elab.specs.declared.scope.Entry.{Entry}
@@ -34,3 +35,8 @@ reading_number (reading.Constant value) leaves = bit_number value
 -- each reference with a reading has the value that its reading stands for
 abbrev pub Reads : Scope → (Ref → ℕ) → List Bool → Type 0
 Reads scope names leaves = (r : Ref) (reading : Reading) → reading_of scope r ≡ Some reading → names r ≡ reading_number reading leaves
+
+-- some names are vectors of one bit, and no constants
+pub record AreBitNames (Names : Ref → Type 0) (widths : Widths) : Type 0 where
+  pub width : (r : Ref) → Names r → widths.width r ≡ Some 1
+  pub number : (r : Ref) → Names r → widths.number r ≡ None

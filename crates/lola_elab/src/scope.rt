@@ -1,9 +1,10 @@
 ghost use Rattle.std.specs.Prelude.{◌≡◌, ◌≤◌, ℕ, Bool, List, [], None, IfOk, MatchOption};
 ghost use Rattle.lola_tree.specs.Tree.{tree};
+ghost use Rattle.lola_tree.specs.Width.{Scope as Widths};
 ghost use Rattle.lola_tree.specs.Value.{value};
 ghost use Rattle.lola_tree.specs.declared.named.Ref.{Ref as Reference};
 ghost use Rattle.lola_elab.specs.Logic.{logic_value, bit_number};
-ghost use Rattle.lola_elab.specs.Scope.{find, find_path, reading_of, reading_number, HasReading, Reads};
+ghost use Rattle.lola_elab.specs.Scope.{find, find_path, reading_of, reading_number, HasReading, Reads, AreBitNames};
 ghost use Rattle.lola_elab.specs.Small.{IsLogic, IsSmallExpr};
 ghost use Rattle.lola_elab.specs.Resolved.{IsGateOf};
 
@@ -53,7 +54,7 @@ impl Scope {
 /// scope hasn't.
 pub fn resolve(alloc: Global, expr: &Expr, scope: &Scope) -> Result<Logic, ElabError>
     ensures small { IfOk result (λ logic. IsSmallExpr (HasReading scope.now) (tree expr.now)) }
-    ensures means { IfOk result (λ logic. (names : Reference → ℕ) (leaves : List Bool) → Reads scope.now names leaves → value (tree expr.now) names ≡ bit_number (logic_value logic leaves)) }
+    ensures means { IfOk result (λ logic. (widths : Widths) → AreBitNames (HasReading scope.now) widths → (names : Reference → ℕ) (leaves : List Bool) → Reads scope.now names leaves → value widths (tree expr.now) names ≡ bit_number (logic_value logic leaves)) }
     ensures none { result ≡ Err ElabError.NotBuilt → IsSmallExpr (HasReading scope.now) (tree expr.now) → ⊥ }
 {
     match expr {

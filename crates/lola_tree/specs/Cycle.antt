@@ -1,16 +1,16 @@
 -- One clock cycle of a design: which valuations satisfy its equations, and its next state. Signals are
 -- known by their paths. So far a design is its root; instances, pads and arrays add cases.
-use Rattle.std.specs.Prelude.{◌≡◌, ◌⊎◌, ℕ, ◌^◌, ◌<◌, List, [], ◌∷◌, ◌++◌, length, zero, suc}
+use Rattle.std.specs.Prelude.{◌≡◌, ◌⊎◌, ℕ, ◌^◌, ◌<◌, List, [], ◌∷◌, ◌++◌, length, zero, suc, Option, Some, None}
 use Rattle.lola_tree.specs.declared.named.Named.{Named}
-use Rattle.lola_tree.specs.declared.named.Count.TheVariants as count
 use Rattle.lola_tree.specs.declared.named.Ref.{Ref}
 use Rattle.lola_tree.specs.declared.named.Shape.{Shape}
-use Rattle.lola_tree.specs.declared.named.Shape.TheVariants as shape
 use Rattle.lola_tree.specs.declared.module.Way.TheVariants.{Inward}
 use Rattle.lola_tree.specs.declared.module.Port.{Port}
 use Rattle.lola_tree.specs.declared.module.LocalKind.TheVariants.{Reg}
 use Rattle.lola_tree.specs.declared.module.Local.{Local}
 use Rattle.lola_tree.specs.Tree.{StmtTree, assignment, call, pad, ModuleTree, SourceTree}
+use Rattle.lola_tree.specs.Names.{Names, names_of}
+use Rattle.lola_tree.specs.Width.{vector_width, scope_of}
 use Rattle.lola_tree.specs.Value.{Path, Values, value}
 
 -- an item is among those of a list
@@ -57,18 +57,22 @@ pub record IsInput (S : SourceTree) (path : Path) (type : Shape) : Type 0 where
   pub input : IsInputOf root name type
   pub leads : path ≡ name ∷ []
 
--- a number is a vector of a type
-abbrev pub Suits : Shape → ℕ → Type 0
-Suits (shape.Vector (count.Fixed width at)) n = n < 2 ^ width
-Suits other n = Unit {0}
+-- a number is below 2 to a width, where there is one
+abbrev pub FitsIn : Option ℕ → ℕ → Type 0
+FitsIn None n = Unit {0}
+FitsIn (Some width) n = n < 2 ^ width
+
+-- a number is a vector of a type, whose counts a module's names give
+abbrev pub Suits : Names → Shape → ℕ → Type 0
+Suits names type n = FitsIn (vector_width names (Some type)) n
 
 -- a state gives each register a value of its type
 abbrev pub IsState : SourceTree → Values → Type 0
-IsState S s = (path : Path) (type : Shape) → IsRegister S path type → Suits type (s path)
+IsState S s = (root : ModuleTree) → IsRoot S root → (path : Path) (type : Shape) → IsRegister S path type → Suits (names_of root) type (s path)
 
 -- an input gives each IN port but the clock a value of its type
 abbrev pub IsGiven : SourceTree → Values → Type 0
-IsGiven S inp = (path : Path) (type : Shape) → IsInput S path type → Suits type (inp path)
+IsGiven S inp = (root : ModuleTree) → IsRoot S root → (path : Path) (type : Shape) → IsInput S path type → Suits (names_of root) type (inp path)
 
 -- the values of the names that are seen from an instance
 abbrev pub names_at : Path → Values → Ref → ℕ
@@ -77,7 +81,7 @@ names_at p v r = v (p ++ r.path)
 -- a statement's equation: what isn't a register has its assignment's value in the same cycle
 abbrev pub Equation : ModuleTree → Path → Values → StmtTree → Type 0
 Equation m p v (assignment name place e at equals) =
-    ((clock : List ℕ) (type : Shape) → IsRegisterOf m name clock type → ⊥) → v (p ++ name ∷ []) ≡ value e (names_at p v)
+    ((clock : List ℕ) (type : Shape) → IsRegisterOf m name clock type → ⊥) → v (p ++ name ∷ []) ≡ value (scope_of m) e (names_at p v)
 Equation m p v (call name args at) = Unit {0}
 Equation m p v (pad io inner drive release at) = Unit {0}
 
@@ -94,7 +98,7 @@ pub record Cycle (S : SourceTree) (s inp v : Values) : Type 0 where
 -- what a statement says of the next state: a register has its assignment's value of this cycle
 abbrev pub NextBy : ModuleTree → Path → Values → Values → StmtTree → Type 0
 NextBy m p v s' (assignment name place e at equals) =
-    (clock : List ℕ) (type : Shape) → IsRegisterOf m name clock type → s' (p ++ name ∷ []) ≡ value e (names_at p v)
+    (clock : List ℕ) (type : Shape) → IsRegisterOf m name clock type → s' (p ++ name ∷ []) ≡ value (scope_of m) e (names_at p v)
 NextBy m p v s' (call name args at) = Unit {0}
 NextBy m p v s' (pad io inner drive release at) = Unit {0}
 

@@ -1,9 +1,9 @@
--- What expressions mean. A value is a number, and every vector has one bit so far.
-use Rattle.std.specs.Prelude.{ℕ, ◌-◌, List, bit_and, bit_or, bit_xor}
-use Rattle.lola_bits.specs.declared.op.Op.{Op}
-use Rattle.lola_bits.specs.declared.op.Op.TheVariants as op
+-- What expressions mean: a value is a number, which as a vector has the width of its expression.
+use Rattle.std.specs.Prelude.{ℕ, ◌+◌, ◌*◌, ◌^◌, zero, suc, cond, nat_eq, List, Option, Some, None}
+use Rattle.lola_bits.specs.Number.{bit_at, slice_of, joined, inverted, operate}
 use Rattle.lola_tree.specs.declared.named.Ref.{Ref}
-use Rattle.lola_tree.specs.Tree.{Tree, number, whole, bit, slice, index, concat, negation, binary, choice}
+use Rattle.lola_tree.specs.Tree.{Tree, number, whole, bit, slice, index, concat, negation, binary, choice, Parts, no_part, one_part}
+use Rattle.lola_tree.specs.Width.{Scope, width, total_width}
 
 -- a path: the names of instances, and then a name
 abbrev pub Path : Type 0
@@ -13,21 +13,38 @@ Path = List (List ℕ)
 abbrev pub Values : Type 0
 Values = Path → ℕ
 
--- an operator on two numbers of one bit; the others come with vectors
-abbrev pub operate : Op → ℕ → ℕ → ℕ
-operate op.And x y = bit_and x y
-operate op.Or x y = bit_or x y
-operate op.Xor x y = bit_xor x y
-operate other x y = 0
+-- what is defined, or else 0
+abbrev pub or_zero : Option ℕ → ℕ
+or_zero None = 0
+or_zero (Some n) = n
 
--- the value of an expression, where each reference names a value; the other forms come with vectors
-abbrev pub value : Tree → (Ref → ℕ) → ℕ
-value (number n width at) names = n
-value (whole of) names = names of
-value (negation e at) names = 1 - value e names
-value (binary o a b at) names = operate o (value a names) (value b names)
-value (choice test first second at) names = 0
-value (bit of place at) names = 0
-value (slice of high low at) names = 0
-value (index of place at) names = 0
-value (concat parts at) names = 0
+-- the number of a constant where a name is one, or else that of the name
+abbrev pub or_read : Option ℕ → ℕ → ℕ
+or_read None n = n
+or_read (Some c) n = c
+
+-- a number several times, one behind another
+abbrev pub repeated : ℕ → ℕ → ℕ → ℕ
+repeated zero w x = 0
+repeated (suc times) w x = joined (repeated times w x) w x
+
+abbrev mutual
+  -- the value of an expression, where each reference names a number; elements of arrays come later
+  pub value : Scope → Tree → (Ref → ℕ) → ℕ
+  value scope (number n written at) read = n
+  value scope (whole of) read = or_read (scope.number of) (read of)
+  value scope (bit of place at) read = bit_at (or_read (scope.number of) (read of)) (or_zero (scope.count place))
+  value scope (slice of high low at) read =
+      slice_of (or_read (scope.number of) (read of)) (or_zero (scope.count high)) (or_zero (scope.count low))
+  value scope (index of place at) read = 0
+  value scope (concat parts at) read = value_of_parts scope parts read
+  value scope (negation arg at) read = inverted (or_zero (width scope arg)) (value scope arg read)
+  value scope (binary op left right at) read = operate op (or_zero (width scope left)) (value scope left read) (value scope right read)
+  value scope (choice test first second at) read = cond (nat_eq (value scope test read) 1) (value scope first read) (value scope second read)
+
+  -- the value of the parts of a concatenation, the leftmost highest
+  pub value_of_parts : Scope → Parts → (Ref → ℕ) → ℕ
+  value_of_parts scope no_part read = 0
+  value_of_parts scope (one_part e times behind) read =
+      joined (repeated (or_zero (scope.count times)) (or_zero (width scope e)) (value scope e read))
+        (or_zero (total_width scope behind)) (value_of_parts scope behind read)

@@ -1,10 +1,21 @@
 -- What a table says of a word: its class, the states after an instruction, and an execution from
 -- answer to answer. So far the word is 0 of width 1, and an instruction makes no access.
-use Rattle.std.specs.Prelude.{◌≡◌, ℕ, zero, suc, ◌+◌, ◌-◌, ◌/◌, ◌%◌, ◌^◌, ◌≤◌, Bool, true, false, if◌then◌else◌, nat_eq, List, [], ◌∷◌, length, drop, bytes_eq, codes, ◌&&◌}
+use Rattle.std.specs.Prelude.{◌≡◌, ℕ, zero, suc, ◌+◌, ◌-◌, ◌/◌, ◌%◌, ◌^◌, ◌≤◌, Bool, true, false, if◌then◌else◌, nat_eq, List, [], ◌∷◌, length, drop, bytes_eq, codes, ◌&&◌, Some, None}
 use Rattle.lola_tree.specs.declared.named.Ref.{Ref}
+use Rattle.lola_tree.specs.Tree.{Tree}
+use Rattle.lola_tree.specs.Width.{Scope}
 use Rattle.lola_tree.specs.Value.{Path, Values, value}
 use Rattle.lola_tree.specs.Cycle.{IsIn}
 use Rattle.tab_tree.specs.Table.{StateTree, SetTree, PhaseTree, ClassTree, TableTree}
+
+-- where an expression of a table stands: so far each name is a vector of one bit, and there are no
+-- constants
+abbrev pub table_scope : Scope
+table_scope = record { count = λ c. None; number = λ r. None; width = λ r. Some 1; element = λ r. None; place = λ r. None }
+
+-- the value of an expression of a table
+abbrev pub table_value : Tree → (Ref → ℕ) → ℕ
+table_value e read = value table_scope e read
 
 -- what a programmer sees: the values of the states, in the order of their rows
 abbrev pub Arch : Type 0
@@ -76,7 +87,7 @@ no_names r = 0
 -- the value of a state's SET row, or its old value where there is none
 abbrev pub set_value : List SetTree → List ℕ → ℕ → (Ref → ℕ) → ℕ
 set_value [] name old names = old
-set_value (row ∷ rows) name old names = if bytes_eq row.name name then value row.value names else set_value rows name old names
+set_value (row ∷ rows) name old names = if bytes_eq row.name name then table_value row.value names else set_value rows name old names
 
 -- all states after the SET rows, all at once
 abbrev pub set_states : List StateTree → Arch → List SetTree → (Ref → ℕ) → Arch

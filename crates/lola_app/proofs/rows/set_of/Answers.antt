@@ -3,11 +3,10 @@ use Rattle.std.specs.Prelude.{bytes_eq, slice_index_or}
 use Rattle.std.proofs.lemmas.Result.{IfOk-weaker}
 use Rattle.lola_tree.specs.declared.named.Ref.{Ref}
 use Rattle.lola_tree.specs.Tree.{tree}
-use Rattle.lola_tree.specs.Value.{value}
 use Rattle.lola_elab.specs.Logic.{logic_value, bit_number}
 use Rattle.lola_elab.specs.Scope.{HasReading, Reads}
 use Rattle.tab_tree.specs.Table.{set_tree}
-use Rattle.tab_tree.specs.Step.{set_value}
+use Rattle.tab_tree.specs.Step.{set_value, table_value}
 use Rattle.lola_app.specs.Small.{IsSmallRow}
 use Rattle.lola_app.proofs.ByRow.{all_at}
 use Rattle.lola_app.proofs.SetRows.{at_row}
@@ -19,7 +18,7 @@ returns-then-eq-clause-means c =
     let row = c.row-item.result in
     let same : bytes_eq row.name name ≡ true = ap₂ (λ (x y : List ℕ). bytes_eq x y) (sym c.text.ensures) (sym c.as_str.ensures.value) ∙ sym c.if-eq.ensures in
     IfOk-weaker c.meaning.result
-    (λ logic. (names : Ref → ℕ) (leaves : List Bool) → Reads c.args.scope.now names leaves → value (tree row.value) names ≡ bit_number (logic_value logic leaves))
+    (λ logic. (names : Ref → ℕ) (leaves : List Bool) → Reads c.args.scope.now names leaves → table_value (tree row.value) names ≡ bit_number (logic_value logic leaves))
     (λ logic. (names : Ref → ℕ) (leaves : List Bool) (old : ℕ) → Reads c.args.scope.now names leaves → old ≡ bit_number (slice_index_or leaves c.args.state.now.leaf false) →
     set_value (map set_tree c.args.rows.now) name old names ≡ bit_number (logic_value logic leaves))
     (λ logic means names leaves old reads is.

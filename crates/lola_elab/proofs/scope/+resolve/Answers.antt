@@ -1,11 +1,11 @@
-use Rattle.std.proofs.Common.{◌≡◌, ◌-◌, Bool, true, false, not, refl}
-use Rattle.lola_elab.specs.Logic.{bit_number}
+use Rattle.std.proofs.Common.{◌≡◌, sym, ◌∙◌, ap, ap₂, refl}
+use Rattle.lola_bits.specs.Number.{inverted, operate}
+use Rattle.lola_tree.specs.Tree.{tree}
+use Rattle.lola_elab.specs.Scope.{HasReading}
+use Rattle.lola_elab.proofs.BitWidths.{negated_value, both_value, name_value, other_bit}
 use Rattle.lola_elab.proofs.scope.+resolve.Goals as goal
 
-negated : (b : Bool) → 1 - bit_number b ≡ bit_number (not b)
-negated true = refl
-negated false = refl
-
 pub returns-in_ok-negation-in-Ok-clause-means : goal.returns-in_ok-negation-in-Ok-clause-means
-returns-in_ok-negation-in-Ok-clause-means t c = λ names leaves reads.
-    rw (c.in-Not.is, c.in_ok-negation-in-Ok.ensures leaves, ← c.deref.ensures, c.in-Ok.ensures.means names leaves reads) (negated _)
+returns-in_ok-negation-in-Ok-clause-means t c = λ widths bits names leaves reads.
+    rw (c.in-Not.is, c.in_ok-negation-in-Ok.ensures leaves, ← c.deref.ensures)
+    (negated_value (HasReading c.args.scope.now) widths bits (tree c.deref.result.now) c.in-Ok.ensures.small c.in-Not.at names ∙ ap (inverted 1) (c.in-Ok.ensures.means widths bits names leaves reads) ∙ other_bit _)
