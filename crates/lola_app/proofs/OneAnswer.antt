@@ -1,5 +1,5 @@
 -- Two texts lead to one answer.
-use Rattle.std.proofs.Common.{◌≡◌, ◌≢◌, ℕ, ◌+◌, ◌<◌, ◌≤◌, List, [], ◌∷◌, ◌++◌, length, refl, sym, ap, ap₂, ◌∙◌, subst, arith, inl, inr, ◌⊎◌, length-append}
+use Rattle.std.proofs.Common.{◌≡◌, ◌≢◌, ℕ, ◌+◌, ◌<◌, ◌≤◌, List, [], ◌∷◌, ◌++◌, length, refl, sym, ap, ap₂, ◌∙◌, subst, arith, inl, inr, ◌⊎◌, length-append, Some, None}
 use Rattle.std.specs.List.{AllByRecursion}
 use Rattle.std.proofs.lemmas.Bool.{cases_lt}
 use Rattle.lola_tree.specs.Tree.{SourceTree}
@@ -7,7 +7,7 @@ use Rattle.lola_tree.specs.Signals.{values_of, root_registers}
 use Rattle.lola_scan.specs.declared.token.Token.{Token}
 use Rattle.lola_scan.specs.declared.token.ScanError.{ScanError}
 use Rattle.lola_scan.specs.declared.token.ScanError.TheVariants as scan
-use Rattle.lola_scan.specs.Tokens.{Fails, HasOneReading}
+use Rattle.lola_scan.specs.Tokens.{Spells, Fails, HasOneReading}
 use Rattle.lola_parse.specs.declared.symbol.Language.TheVariants.{Design, Table}
 use Rattle.lola_parse.specs.Symbols.{Item, items_of}
 use Rattle.lola_parse.specs.Design.{SpellsSource}
@@ -16,9 +16,12 @@ use Rattle.tab_tree.specs.Step.{inside_classes}
 use Rattle.tab_read.specs.Grammar.{SpellsTable}
 use Rattle.lola_app.specs.Accepts.{Accepts, IsSpelled, AcceptsTable}
 use Rattle.lola_app.specs.Obligations.{Obligation, cover, reset, ends, obligations, obligation_name, Valuation, HoldsAt, IsViolatedAt, HoldsAlways, free_inputs, free_names, free_values, ComesBefore, IsLeastViolation}
+use Rattle.lola_width.specs.declared.fault.SourceFault.{SourceFault as SizeFault}
+use Rattle.lola_width.specs.Order.{first_after}
+use Rattle.lola_width.specs.Sized.{IsWellSized, first_fault}
 use Rattle.lola_app.specs.declared.fault.SourceFault.{SourceFault}
-use Rattle.lola_app.specs.declared.fault.SourceFault.TheVariants.{BadByte, NumberTooLarge, OpenComment, Syntax, NotBuilt}
-use Rattle.lola_app.specs.Refused.{HasNoTree, HasLongExpression, IsOutside, IsRefused}
+use Rattle.lola_app.specs.declared.fault.SourceFault.TheVariants.{BadByte, NumberTooLarge, OpenComment, Syntax, IllSized, NotBuilt}
+use Rattle.lola_app.specs.Refused.{HasNoTree, HasLongExpression, HasSizeFault, IsOutside, IsRefused}
 use Rattle.lola_app.specs.Reply.{Line, Outcome, accepted, failed, wrong_words, source_refused, long_expression, table_not_built, unread, too_long, no_memory}
 use Rattle.lola_app.specs.Serve.{IsYes, IsNo, IsTableRefused, IsDecided, IsUngrammatical, lines_of}
 use Rattle.lola_app.proofs.Leaves.{length_map}
@@ -151,10 +154,12 @@ module _ (reading : OneReadingLaw) (tree : OneTreeLaw) (table : OneTableLaw) (s 
       refused.none T (subst (λ (R : SourceTree). AcceptsTable R t T) (one_source reading tree s S refused.S design refused.design) fitting)
 
   -- why the text of the design gives none, and what is said of it: its first fault, by name; no tree of its
-  -- tokens, by one of the two outcomes that say so; or a tree outside the forms that are built
+  -- tokens, by one of the two outcomes that say so; the first fault of their tree; or a tree outside the
+  -- forms that are built
   data SourceCause (a : Outcome) : Type 0 where
     by_fault : (error : ScanError) → Fails 0 s error → a ≡ source_refused (named_as error) → SourceCause a
     by_grammar : HasNoTree s → IsUngrammatical a → SourceCause a
+    by_size : (error : SizeFault) → HasSizeFault s error → a ≡ source_refused (IllSized error) → SourceCause a
     by_form : IsOutside s → a ≡ source_refused NotBuilt → SourceCause a
 
   cause_of : (fault : SourceFault) → IsRefused s fault → SourceCause (source_refused fault)
@@ -162,35 +167,61 @@ module _ (reading : OneReadingLaw) (tree : OneTreeLaw) (table : OneTableLaw) (s 
   cause_of (NumberTooLarge at) is = by_fault (scan.NumberTooLarge at) is refl
   cause_of (OpenComment at) is = by_fault (scan.OpenComment at) is refl
   cause_of (Syntax at) is = by_grammar is tt
+  cause_of (IllSized error) is = by_size error is refl
   cause_of NotBuilt is = by_form is refl
 
   cause_of_long : (at : ℕ) → HasLongExpression s at → SourceCause (long_expression at)
   cause_of_long at is = by_grammar is.no_tree tt
 
+  -- the trees that a text spells are one, and tokens that spell a tree don't spell none
+  same_tree : (S R : SourceTree) (ts us : List Token) → Spells 0 s ts → SpellsSource (items_of Design s ts) S → Spells 0 s us → SpellsSource (items_of Design s us) R → S ≡ R
+  same_tree S R ts us spells spelled spells' spelled' =
+      tree (items_of Design s ts) S R spelled
+      (subst (λ (vs : List Token). SpellsSource (items_of Design s vs) R) (HasOneReading.one_list (reading s) us ts spells' spells) spelled')
+
+  spells_one : (S : SourceTree) (ts : List Token) → HasNoTree s → Spells 0 s ts → SpellsSource (items_of Design s ts) S → ⊥
+  spells_one S ts none spells spelled =
+      none.none S (subst (λ (vs : List Token). SpellsSource (items_of Design s vs) S) (HasOneReading.one_list (reading s) ts none.tokens spells none.spells) spelled)
+
+  -- a tree with a fault isn't well sized
+  never_sized : (S R : SourceTree) (error : SizeFault) → S ≡ R → first_fault S ≡ Some error → IsWellSized R → ⊥
+  never_sized S R error same first sized =
+      let none : first_fault S ≡ None = ap first_fault same ∙ ap (first_after None) sized.none in
+      cc
+
   -- a text with such a cause isn't accepted
   not_accepted : {a : Outcome} {S : SourceTree} → SourceCause a → Accepts s S → ⊥
   not_accepted {S = S} (by_fault error fails is) accepts = HasOneReading.never_both (reading s) accepts.tokens error accepts.spells fails
   not_accepted {S = S} (by_grammar none is) accepts = none.none S (source_of s none.tokens S (reading s) none.spells accepts)
+  not_accepted {S = S} (by_size error has is) accepts =
+      never_sized has.S S error (same_tree has.S S has.tokens accepts.tokens has.spells has.spelled accepts.spells accepts.source) has.first accepts.sized
   not_accepted {S = S} (by_form outside is) accepts =
       outside.large (small_of s outside.tokens S outside.S (reading s) tree outside.spells outside.spelled accepts)
-
-  -- tokens that spell a design don't spell none
-  spells_one : HasNoTree s → IsOutside s → ⊥
-  spells_one none outside =
-      none.none outside.S (subst (λ (ts : List Token). SpellsSource (items_of Design s ts) outside.S)
-      (HasOneReading.one_list (reading s) outside.tokens none.tokens outside.spells none.spells) outside.spelled)
 
   -- so two causes are one, but for the two outcomes of grammar
   one_cause : (a b : Outcome) → SourceCause a → SourceCause b → (a ≡ b) ⊎ (IsUngrammatical a × IsUngrammatical b)
   one_cause a b (by_fault error fails is) (by_fault other fails' is') =
       inl (is ∙ ap (λ (e : ScanError). source_refused (named_as e)) (HasOneReading.one_fault (reading s) error other fails fails') ∙ sym is')
   one_cause a b (by_fault error fails is) (by_grammar none is') = absurd (HasOneReading.never_both (reading s) none.tokens error none.spells fails)
+  one_cause a b (by_fault error fails is) (by_size other has is') = absurd (HasOneReading.never_both (reading s) has.tokens error has.spells fails)
   one_cause a b (by_fault error fails is) (by_form outside is') = absurd (HasOneReading.never_both (reading s) outside.tokens error outside.spells fails)
   one_cause a b (by_grammar none is) (by_fault error fails is') = absurd (HasOneReading.never_both (reading s) none.tokens error none.spells fails)
   one_cause a b (by_grammar none is) (by_grammar other is') = inr (is, is')
-  one_cause a b (by_grammar none is) (by_form outside is') = absurd (spells_one none outside)
+  one_cause a b (by_grammar none is) (by_size error has is') = absurd (spells_one has.S has.tokens none has.spells has.spelled)
+  one_cause a b (by_grammar none is) (by_form outside is') = absurd (spells_one outside.S outside.tokens none outside.spells outside.spelled)
+  one_cause a b (by_size error has is) (by_fault other fails is') = absurd (HasOneReading.never_both (reading s) has.tokens other has.spells fails)
+  one_cause a b (by_size error has is) (by_grammar none is') = absurd (spells_one has.S has.tokens none has.spells has.spelled)
+  one_cause a b (by_size error has is) (by_size other has' is') =
+      let same = same_tree has.S has'.S has.tokens has'.tokens has.spells has.spelled has'.spells has'.spelled in
+      let one : Some error ≡ Some other = sym has.first ∙ ap first_fault same ∙ has'.first in
+      let errors : error ≡ other = cc in
+      inl (is ∙ ap (λ (e : SizeFault). source_refused (IllSized e)) errors ∙ sym is')
+  one_cause a b (by_size error has is) (by_form outside is') =
+      absurd (never_sized has.S outside.S error (same_tree has.S outside.S has.tokens outside.tokens has.spells has.spelled outside.spells outside.spelled) has.first outside.sized)
   one_cause a b (by_form outside is) (by_fault error fails is') = absurd (HasOneReading.never_both (reading s) outside.tokens error outside.spells fails)
-  one_cause a b (by_form outside is) (by_grammar none is') = absurd (spells_one none outside)
+  one_cause a b (by_form outside is) (by_grammar none is') = absurd (spells_one outside.S outside.tokens none outside.spells outside.spelled)
+  one_cause a b (by_form outside is) (by_size error has is') =
+      absurd (never_sized has.S outside.S error (same_tree has.S outside.S has.tokens outside.tokens has.spells has.spelled outside.spells outside.spelled) has.first outside.sized)
   one_cause a b (by_form outside is) (by_form other is') = inl (is ∙ sym is')
 
   pub one_answer_is : (a b : Outcome) → IsDecided s t a → IsDecided s t b → a ≢ no_memory → b ≢ no_memory → (a ≡ b) ⊎ (IsUngrammatical a × IsUngrammatical b)

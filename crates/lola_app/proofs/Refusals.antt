@@ -10,9 +10,11 @@ use Rattle.lola_parse.specs.declared.parser.ParseError.TheVariants as parse
 use Rattle.lola_parse.specs.declared.symbol.Language.TheVariants.{Design}
 use Rattle.lola_parse.specs.Symbols.{items_of}
 use Rattle.lola_parse.specs.Long.{IsTooLong, LongSays}
+use Rattle.lola_width.specs.declared.fault.SourceFault.{SourceFault as SizeFault}
+use Rattle.lola_width.specs.declared.fault.SourceFault.TheVariants as size
 use Rattle.lola_elab.specs.declared.fault.ElabError.{ElabError}
 use Rattle.lola_elab.specs.declared.fault.ElabError.TheVariants as elab
-use Rattle.lola_app.specs.Refused.{HasNoTree, IsOutside, HasRefusal, HasLong, scan_refusal, parse_refusal, elab_refusal}
+use Rattle.lola_app.specs.Refused.{HasNoTree, HasSizeFault, IsOutside, HasRefusal, HasLong, scan_refusal, parse_refusal, size_refusal, elab_refusal}
 
 -- a fault of the scanner is the text's first
 pub scan_refused : {V : Type 0} (text : List ℕ) (items : V → List Token) (error : ScanError) → Scanned {V = V} text items (Err error) → HasRefusal text (scan_refusal error)
@@ -39,6 +41,25 @@ pub parse_long : (text : List ℕ) (error : ParseError) (no_tree : error ≢ par
 parse_long text (parse.Syntax at) no_tree long = tt
 parse_long text (parse.Long at) no_tree long = record { no_tree = no_tree (λ e. cc); long = long (λ e. cc) }
 parse_long text parse.Memory no_tree long = tt
+
+-- the first fault of a tree that isn't well sized
+pub size_refused : (text : List ℕ) (error : SizeFault) → (error ≢ size.Memory → HasSizeFault text error) → HasRefusal text (size_refusal error)
+size_refused text size.Memory has = tt
+size_refused text (size.Doubled at name) has = has (λ e. cc)
+size_refused text (size.Unknown at name) has = has (λ e. cc)
+size_refused text (size.Kind at) has = has (λ e. cc)
+size_refused text (size.ArrayShape at name) has = has (λ e. cc)
+size_refused text (size.Clock at) has = has (λ e. cc)
+size_refused text (size.Width at left right) has = has (λ e. cc)
+size_refused text (size.TooWide at) has = has (λ e. cc)
+size_refused text (size.IndexRange at) has = has (λ e. cc)
+size_refused text (size.PortCount at) has = has (λ e. cc)
+size_refused text (size.NotAssigned at name) has = has (λ e. cc)
+size_refused text (size.AssignedTwice at name) has = has (λ e. cc)
+
+pub size_long : (text : List ℕ) (error : SizeFault) → HasLong text (size_refusal error)
+size_long text size.Memory = tt
+size_long text other = tt
 
 -- a tree that gives no design is outside the forms that are built
 pub elab_refused : (text : List ℕ) (error : ElabError) → (error ≡ elab.NotBuilt → IsOutside text) → HasRefusal text (elab_refusal error)

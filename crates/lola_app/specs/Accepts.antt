@@ -7,16 +7,18 @@ use Rattle.lola_scan.specs.Tokens.{Spells}
 use Rattle.lola_parse.specs.declared.symbol.Language.TheVariants.{Design, Table}
 use Rattle.lola_parse.specs.Symbols.{items_of}
 use Rattle.lola_parse.specs.Design.{SpellsSource}
+use Rattle.lola_width.specs.Sized.{IsWellSized}
 use Rattle.lola_elab.specs.Small.{IsSmallSource}
 use Rattle.tab_tree.specs.Table.{TableTree}
 use Rattle.tab_read.specs.Grammar.{SpellsTable}
 use Rattle.lola_app.specs.Small.{interface_of, IsSmallTable}
 
--- the bytes spell tokens, which spell the source, and it is well formed
+-- the bytes spell tokens, which spell the source, and it is well sized and in the small form
 pub record Accepts (bytes : List ℕ) (S : SourceTree) : Type 0 where
   pub tokens : List Token
   pub spells : Spells 0 bytes tokens
   pub source : SpellsSource (items_of Design bytes tokens) S
+  pub sized : IsWellSized S
   pub small : IsSmallSource S
 
 -- a table fits a design

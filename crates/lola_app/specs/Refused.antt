@@ -1,5 +1,5 @@
 -- When the text of a design is refused, and why.
-use Rattle.std.specs.Prelude.{ℕ, List}
+use Rattle.std.specs.Prelude.{◌≡◌, ℕ, List, Some}
 use Rattle.lola_tree.specs.Tree.{SourceTree}
 use Rattle.lola_scan.specs.declared.token.Token.{Token}
 use Rattle.lola_scan.specs.declared.token.ScanError.{ScanError}
@@ -11,11 +11,14 @@ use Rattle.lola_parse.specs.declared.symbol.Language.TheVariants.{Design}
 use Rattle.lola_parse.specs.Symbols.{items_of}
 use Rattle.lola_parse.specs.Design.{SpellsSource}
 use Rattle.lola_parse.specs.Long.{IsTooLong}
+use Rattle.lola_width.specs.declared.fault.SourceFault.{SourceFault as SizeFault}
+use Rattle.lola_width.specs.declared.fault.SourceFault.TheVariants as size
+use Rattle.lola_width.specs.Sized.{IsWellSized, first_fault}
 use Rattle.lola_elab.specs.declared.fault.ElabError.{ElabError}
 use Rattle.lola_elab.specs.declared.fault.ElabError.TheVariants as elab
 use Rattle.lola_elab.specs.Small.{IsSmallSource}
 use Rattle.lola_app.specs.declared.fault.SourceFault.{SourceFault}
-use Rattle.lola_app.specs.declared.fault.SourceFault.TheVariants.{BadByte, NumberTooLarge, OpenComment, Syntax, NotBuilt}
+use Rattle.lola_app.specs.declared.fault.SourceFault.TheVariants.{BadByte, NumberTooLarge, OpenComment, Syntax, IllSized, NotBuilt}
 use Rattle.lola_app.specs.declared.fault.SourceError.{SourceError}
 use Rattle.lola_app.specs.declared.fault.SourceError.TheVariants.{Refused, Long, Memory}
 
@@ -31,22 +34,33 @@ pub record HasLongExpression (source : List ℕ) (at : ℕ) : Type 0 where
   pub no_tree : HasNoTree source
   pub long : IsTooLong Design (items_of Design source no_tree.tokens) at
 
--- the text spells a design, and it is outside the forms that are built
+-- the text spells a design, and this is its first fault of names, widths and assignments
+pub record HasSizeFault (source : List ℕ) (fault : SizeFault) : Type 0 where
+  pub S : SourceTree
+  pub tokens : List Token
+  pub spells : Spells 0 source tokens
+  pub spelled : SpellsSource (items_of Design source tokens) S
+  pub first : first_fault S ≡ Some fault
+
+-- the text spells a well sized design, and it is outside the forms that are built
 pub record IsOutside (source : List ℕ) : Type 0 where
   pub S : SourceTree
   pub tokens : List Token
   pub spells : Spells 0 source tokens
   pub spelled : SpellsSource (items_of Design source tokens) S
+  pub sized : IsWellSized S
   pub large : IsSmallSource S → ⊥
 
 -- when each refusal of a design's text comes: a fault of the text where it is its first; Syntax where
--- the text has no fault, and its tokens spell no design; NotBuilt where they spell one, and it is
--- outside the forms that are built
+-- the text has no fault, and its tokens spell no design; a fault of names, widths or assignments where
+-- they spell one, and it is the first; NotBuilt where the design has none, and is outside the forms that
+-- are built
 abbrev pub IsRefused : List ℕ → SourceFault → Type 0
 IsRefused source (BadByte at) = Fails 0 source (scan.BadByte at)
 IsRefused source (NumberTooLarge at) = Fails 0 source (scan.NumberTooLarge at)
 IsRefused source (OpenComment at) = Fails 0 source (scan.OpenComment at)
 IsRefused source (Syntax at) = HasNoTree source
+IsRefused source (IllSized fault) = HasSizeFault source fault
 IsRefused source NotBuilt = IsOutside source
 
 -- what holds of a text that is refused
@@ -73,6 +87,11 @@ abbrev pub parse_refusal : ParseError → SourceError
 parse_refusal (parse.Syntax at) = Refused (Syntax at)
 parse_refusal (parse.Long at) = Long at
 parse_refusal parse.Memory = Memory
+
+-- what is said of a text whose tree isn't well sized
+abbrev pub size_refusal : SizeFault → SourceError
+size_refusal size.Memory = Memory
+size_refusal fault = Refused (IllSized fault)
 
 -- what is said of a text whose tree gives no design
 abbrev pub elab_refusal : ElabError → SourceError

@@ -1,6 +1,6 @@
 ghost use Rattle.std.specs.Prelude.{◌≡◌, ◌≢◌};
 ghost use Rattle.lola_app.specs.declared.fault.ReadError.TheVariants.{NotBuilt, Memory};
-ghost use Rattle.lola_app.specs.Refused.{scan_refusal, parse_refusal, elab_refusal};
+ghost use Rattle.lola_app.specs.Refused.{scan_refusal, parse_refusal, size_refusal, elab_refusal};
 ghost use Rattle.lola_scan.specs.declared.token.ScanError.TheVariants as scan;
 ghost use Rattle.lola_elab.specs.declared.fault.ElabError.TheVariants as elab;
 ghost use Rattle.tab_read.specs.declared.fault.TableFault.TheVariants as table;
@@ -8,11 +8,12 @@ ghost use Rattle.tab_read.specs.declared.fault.TableFault.TheVariants as table;
 use lola_elab::ElabError;
 use lola_parse::ParseError;
 use lola_scan::ScanError;
+use lola_width::SourceFault as SizeFault;
 use std::alloc::{AllocError, AllocFailed};
 use tab_read::TableFault;
 
 /// Why the text of a design is refused. `at` is an offset in bytes from 0.
-#[derive(Clone, Copy, Debug, PartialEq, Eq)]
+#[derive(Debug, Drop)]
 pub enum SourceFault {
     /// The first fault of the text: a byte that begins no token, or that its number or pattern can't
     /// have there.
@@ -24,12 +25,15 @@ pub enum SourceFault {
     /// The text has tokens, and they spell no design. They end too early where this is the text's
     /// length.
     Syntax { at: u32 },
-    /// The text spells a design, and it is outside the forms that are built.
+    /// The text spells a design that breaks a rule of names, widths or assignments; this is the first
+    /// such fault.
+    IllSized { fault: SizeFault },
+    /// The text spells a well sized design, and it is outside the forms that are built.
     NotBuilt,
 }
 
 /// Why the text of a design gives none.
-#[derive(Clone, Copy, Debug, PartialEq, Eq)]
+#[derive(Debug, Drop)]
 pub enum SourceError {
     /// The text is refused.
     Refused { fault: SourceFault },
@@ -63,6 +67,19 @@ impl From<ParseError> for SourceError {
             },
             ParseError::Long { at } => SourceError::Long { at },
             ParseError::Memory => SourceError::Memory,
+        }
+    }
+}
+
+impl From<SizeFault> for SourceError {
+    ghost from_gives = { λ error refusal. refusal ≡ size_refusal error };
+
+    fn from(error: SizeFault) -> SourceError {
+        match error {
+            SizeFault::Memory => SourceError::Memory,
+            fault => SourceError::Refused {
+                fault: SourceFault::IllSized { fault },
+            },
         }
     }
 }

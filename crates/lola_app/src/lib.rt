@@ -28,6 +28,7 @@ mod trial;
 // commands
 mod command;
 mod printer;
+mod refusal;
 mod reply;
 mod status;
 mod words;

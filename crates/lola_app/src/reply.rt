@@ -1,9 +1,9 @@
 ghost use Rattle.std.specs.Prelude.{◌≡◌, ◌++◌, IfOk, OnOk, codes, decimal, map};
-ghost use Rattle.lola_app.specs.Reply.{text_of, fault_text, outcome_of, status_of, value_line, value_lines, line_of};
+ghost use Rattle.lola_app.specs.Reply.{text_of, outcome_of, status_of, value_line, value_lines, line_of};
 
 use crate::fault::SourceFault;
+use crate::refusal::{push_number, push_refusal};
 use crate::status::Status;
-use itoa::Buffer;
 use std::alloc::{AllocError, Global};
 
 /// A bit of a valuation under the name that a trace gives it, as `@q`.
@@ -84,7 +84,7 @@ pub fn render(alloc: Global, reply: &Reply) -> Result<Vec<u8>, AllocError>
             bits.as_slice(),
         )?,
         Reply::WrongWords => text.extend_from_slice(b"words\n")?,
-        Reply::SourceRefused { fault } => push_refusal(&mut text, *fault)?,
+        Reply::SourceRefused { fault } => push_refusal(&mut text, fault)?,
         Reply::LongExpression { at } => push_long(&mut text, *at)?,
         Reply::TableNotBuilt => text.extend_from_slice(b"table: NotBuilt\n")?,
         Reply::Unread { word } => push_worded(&mut text, b"read: ", word.as_str())?,
@@ -104,45 +104,12 @@ fn push_counts(text: &mut Vec<u8>, obligations: usize, classes: usize) -> Result
     Ok(())
 }
 
-/// The line of a design's text that is refused.
-fn push_refusal(text: &mut Vec<u8>, fault: SourceFault) -> Result<(), AllocError>
-    ensures { OnOk result (text.new.items ≡ text.old.items ++ (codes "source: " ++ (fault_text fault ++ codes "\n"))) }
-{
-    text.extend_from_slice(b"source: ")?;
-    push_fault(text, fault)?;
-    text.extend_from_slice(b"\n")?;
-    Ok(())
-}
-
-/// The name of a fault, with its place where it has one.
-fn push_fault(text: &mut Vec<u8>, fault: SourceFault) -> Result<(), AllocError>
-    ensures { OnOk result (text.new.items ≡ text.old.items ++ fault_text fault) }
-{
-    match fault {
-        SourceFault::BadByte { at } => push_number(text, b"BadByte ", at as usize),
-        SourceFault::NumberTooLarge { at } => push_number(text, b"NumberTooLarge ", at as usize),
-        SourceFault::OpenComment { at } => push_number(text, b"OpenComment ", at as usize),
-        SourceFault::Syntax { at } => push_number(text, b"Syntax ", at as usize),
-        SourceFault::NotBuilt => text.extend_from_slice(b"NotBuilt"),
-    }
-}
-
 /// The line of an expression that is too long.
 fn push_long(text: &mut Vec<u8>, at: u32) -> Result<(), AllocError>
     ensures { OnOk result (text.new.items ≡ text.old.items ++ (codes "limit: expression " ++ (decimal at ++ codes "\n"))) }
 {
     push_number(text, b"limit: expression ", at as usize)?;
     text.extend_from_slice(b"\n")?;
-    Ok(())
-}
-
-/// A number in decimal digits behind what is said of it.
-fn push_number(text: &mut Vec<u8>, said: &[u8], number: usize) -> Result<(), AllocError>
-    ensures { OnOk result (text.new.items ≡ text.old.items ++ (said.now ++ decimal number)) }
-{
-    let mut buffer = Buffer::new();
-    text.extend_from_slice(said)?;
-    text.extend_from_slice(buffer.format(number).as_bytes())?;
     Ok(())
 }
 

@@ -1,10 +1,11 @@
 ghost use Rattle.std.specs.Prelude.{◌≡◌, ◌+◌, ◌≤◌, length, IfOk, IfErr};
 ghost use Rattle.lola_scan.specs.Tokens.{Scanned};
 ghost use Rattle.lola_parse.specs.Symbols.{AreIn};
+ghost use Rattle.lola_tree.specs.Tree.{source_tree};
 ghost use Rattle.tab_tree.specs.Table.{TableTree};
 ghost use Rattle.lola_app.specs.Accepts.{IsSpelled};
 ghost use Rattle.lola_app.specs.Claiming.{face_of};
-ghost use Rattle.lola_app.specs.Made.{IsDesignOf, IsTableOf};
+ghost use Rattle.lola_app.specs.Made.{IsSourceOf, IsDesignOf, IsTableOf};
 ghost use Rattle.lola_app.specs.Refused.{HasRefusal, HasLong};
 ghost use Rattle.lola_app.specs.Reply.{outcome_of};
 ghost use Rattle.lola_app.specs.Serve.{IsDecided, text_limit};
@@ -18,6 +19,8 @@ use crate::trial::try_claim;
 use lola_elab::{Design, one_cycle, read_design};
 use lola_parse::{parse, tokens_lie_within};
 use lola_scan::{ScanError, Token, one_reading, scan};
+use lola_tree::Source;
+use lola_width::sizes;
 use std::alloc::Global;
 use tab_read::{one_table, read_table};
 
@@ -47,10 +50,32 @@ pub fn decide_texts(alloc: Global, source: &[u8], table: &[u8]) -> Reply
 }
 
 /// The one-bit design that a text spells, or why it gives none: the first fault of the text comes
-/// before those of its tokens, and these before the forms that aren't built.
+/// before those of its tokens, these before those of names, widths and assignments, and these before
+/// the forms that aren't built.
 fn source_design(alloc: Global, text: &[u8]) -> Result<Design, SourceError>
     requires { length text.now ≤ text_limit }
     ensures ok { IfOk result (λ design. IsDesignOf text.now design) }
+    ensures refused { IfErr result (λ error. HasRefusal text.now error) }
+    ensures long { IfErr result (λ error. HasLong text.now error) }
+{
+    let source = match spelled_source(alloc, text) {
+        Ok(source) => source,
+        Err(error) => return Err(error),
+    };
+    match sizes(alloc, &source) {
+        Ok(()) => {}
+        Err(fault) => return Err(SourceError::from(fault)),
+    }
+    match read_design(alloc, &source) {
+        Ok(design) => Ok(design),
+        Err(fault) => Err(SourceError::from(fault)),
+    }
+}
+
+/// The source that a text spells, or why it spells none.
+fn spelled_source(alloc: Global, text: &[u8]) -> Result<Source, SourceError>
+    requires { length text.now ≤ text_limit }
+    ensures ok { IfOk result (λ source. IsSourceOf text.now (source_tree source)) }
     ensures refused { IfErr result (λ error. HasRefusal text.now error) }
     ensures long { IfErr result (λ error. HasLong text.now error) }
 {
@@ -58,12 +83,8 @@ fn source_design(alloc: Global, text: &[u8]) -> Result<Design, SourceError>
         Ok(tokens) => tokens,
         Err(fault) => return Err(SourceError::from(fault)),
     };
-    let source = match parse(alloc, text, tokens.as_slice()) {
-        Ok(source) => source,
-        Err(fault) => return Err(SourceError::from(fault)),
-    };
-    match read_design(alloc, &source) {
-        Ok(design) => Ok(design),
+    match parse(alloc, text, tokens.as_slice()) {
+        Ok(source) => Ok(source),
         Err(fault) => Err(SourceError::from(fault)),
     }
 }

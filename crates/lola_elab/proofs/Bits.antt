@@ -1,7 +1,5 @@
 -- The next state of a small design is a state: bits stay bits.
-use Rattle.std.proofs.Common.{◌≡◌, ℕ, zero, suc, ◌<◌, ◌≤◌, ◌^◌, List, [], ◌∷◌, ◌++◌, map, Option, Some, None, refl, sym, ◌∙◌, ap, subst, arith, inl, inr}
-use Rattle.lola_bits.specs.declared.op.Op.{Op}
-use Rattle.lola_bits.specs.declared.op.Op.TheVariants as op
+use Rattle.std.proofs.Common.{◌≡◌, ℕ, ◌<◌, ◌≤◌, ◌^◌, List, [], ◌∷◌, ◌++◌, map, Option, Some, None, refl, sym, ◌∙◌, ap, subst, arith, inl, inr}
 use Rattle.lola_tree.specs.declared.named.Count.TheVariants as count
 use Rattle.lola_tree.specs.declared.named.Named.{Named}
 use Rattle.lola_tree.specs.declared.named.Ref.{Ref}
@@ -14,7 +12,7 @@ use Rattle.lola_tree.specs.declared.module.LocalKind.TheVariants.{Reg}
 use Rattle.lola_tree.specs.declared.module.Local.{Local}
 use Rattle.lola_tree.specs.Tree.{Tree, number, whole, bit, slice, index, concat, negation, binary, choice, StmtTree, assignment, call, pad, ModuleTree, SourceTree}
 use Rattle.lola_bits.specs.Number.{inverted}
-use Rattle.lola_tree.specs.Names.{Names, Entry, port, constant, local, entry_name, entries, names_of, first_name, constant_number, kind_shape}
+use Rattle.lola_tree.specs.Names.{Names, Entry, port, local, entry_name, entries, names_of, first_name, constant_number, kind_shape}
 use Rattle.lola_tree.specs.Width.{Scope as Widths, checked_width, vector_width, entry_width, scope_of}
 use Rattle.lola_tree.specs.Value.{Path, Values, value}
 use Rattle.lola_tree.specs.Cycle.{IsRoot, IsRegisterOf, IsRegister, IsInputOf, IsInput, FitsIn, Suits, IsState, IsGiven, names_at, Cycle, Next, NextBy}
@@ -22,7 +20,7 @@ use Rattle.lola_elab.proofs.Lists.{of_all, from_map}
 use Rattle.lola_elab.proofs.BitWidths.{negated_value, both_value, name_value, operate_bit}
 use Rattle.lola_elab.proofs.Entries.{port_named, local_named, entry_names}
 use Rattle.lola_elab.specs.Scope.{AreBitNames}
-use Rattle.lola_elab.specs.Small.{IsBit, IsLogic, IsSmallExpr, IsSmallPort, IsSmallKind, IsLeaf, IsReadable, IsSmallStmt, target_of, AreDistinct, IsSmallModule, IsSmallSource}
+use Rattle.lola_elab.specs.Small.{IsBit, IsSmallExpr, IsSmallPort, IsSmallKind, IsLeaf, IsReadable, IsSmallStmt, target_of, AreDistinct, IsSmallModule, IsSmallSource}
 
 -- of two lists of one item each way
 only_root : (m n : ModuleTree) (before : List ModuleTree) → m ∷ [] ≡ before ++ n ∷ [] → n ≡ m

@@ -86,14 +86,10 @@ fn a_word_that_no_class_fits_fails(rt: HostRuntime) -> Result<(), Fail> {
 fn a_design_outside_the_small_form_is_not_built(rt: HostRuntime) -> Result<(), Fail> {
     let table =
         b"TABLE T1 FOR Tog; ROLES RESET rst = 1; STATE INVARIANT 1; BOUNDARY 1; START CLASS go \"-\" PHASE; END T1.";
-    let sources: [&[u8]; 7] = [
-        b"MODULE Tog(IN rst: BIT); END Tag.",
+    let sources: [&[u8]; 3] = [
         b"MODULE Tog(IN rst: BYTE); END Tog.",
         b"MODULE Tog(IN rst: BIT); VAR x: BIT; BEGIN x := rst END Tog.",
-        b"MODULE Tog(IN rst: BIT; OUT o: BIT); END Tog.",
-        b"MODULE Tog(IN rst: BIT; OUT o: BIT); BEGIN o := 1; o := 1 END Tog.",
         b"MODULE Tog(IN rst: BIT; OUT o: BIT); BEGIN o := o END Tog.",
-        b"MODULE Tog(IN clk, rst: BIT); REG (clk) q: BIT; BEGIN q := clk END Tog.",
     ];
     for source in sources {
         expect(

@@ -75,6 +75,37 @@ fn a_design_that_ends_too_early_is_refused_at_its_length(rt: HostRuntime) -> Res
     Ok(())
 }
 
+#[test]
+fn a_design_that_breaks_a_rule_has_its_first_fault_named(rt: HostRuntime) -> Result<(), Fail> {
+    let cases: [(&[u8], &[u8]); 6] = [
+        (b"MODULE Tog(IN rst: BIT); END Tag.", b"source: Kind 29\n"),
+        (
+            b"MODULE Tog(IN rst: BIT; OUT o: BIT); END Tog.",
+            b"source: NotAssigned 28 o\n",
+        ),
+        (
+            b"MODULE Tog(IN rst: BIT; OUT o: BIT); BEGIN o := 1; o := 1 END Tog.",
+            b"source: AssignedTwice 51 o\n",
+        ),
+        (
+            b"MODULE Tog(IN clk, rst: BIT); REG (clk) q: BIT; BEGIN q := clk END Tog.",
+            b"source: Clock 59\n",
+        ),
+        (
+            b"MODULE A(OUT o: BYTE); BEGIN o := 3'2 END A.",
+            b"source: Width 31 8 2\n",
+        ),
+        (
+            b"MODULE A(IN a, b, a: BIT); END B.",
+            b"source: Doubled 18 a\n",
+        ),
+    ];
+    for (source, text) in cases {
+        refused(&rt, rt.alloc(), source, text)?;
+    }
+    Ok(())
+}
+
 /// The toggler with an output of so many negations of its register.
 fn negated(alloc: Global, count: usize) -> Result<Vec<u8>, Fail> {
     let mut source =

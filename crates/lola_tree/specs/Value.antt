@@ -1,5 +1,5 @@
 -- What expressions mean: a value is a number, which as a vector has the width of its expression.
-use Rattle.std.specs.Prelude.{ℕ, ◌+◌, ◌*◌, ◌^◌, zero, suc, cond, nat_eq, List, Option, Some, None}
+use Rattle.std.specs.Prelude.{ℕ, zero, suc, cond, nat_eq, List, Option, Some, None}
 use Rattle.lola_bits.specs.Number.{bit_at, slice_of, joined, inverted, operate}
 use Rattle.lola_tree.specs.declared.named.Ref.{Ref}
 use Rattle.lola_tree.specs.Tree.{Tree, number, whole, bit, slice, index, concat, negation, binary, choice, Parts, no_part, one_part}
@@ -47,4 +47,4 @@ abbrev mutual
   value_of_parts scope no_part read = 0
   value_of_parts scope (one_part e times behind) read =
       joined (repeated (or_zero (scope.count times)) (or_zero (width scope e)) (value scope e read))
-        (or_zero (total_width scope behind)) (value_of_parts scope behind read)
+      (or_zero (total_width scope behind)) (value_of_parts scope behind read)

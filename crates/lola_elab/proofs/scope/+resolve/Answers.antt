@@ -1,8 +1,8 @@
-use Rattle.std.proofs.Common.{◌≡◌, sym, ◌∙◌, ap, ap₂, refl}
-use Rattle.lola_bits.specs.Number.{inverted, operate}
+use Rattle.std.proofs.Common.{◌∙◌, ap}
+use Rattle.lola_bits.specs.Number.{inverted}
 use Rattle.lola_tree.specs.Tree.{tree}
 use Rattle.lola_elab.specs.Scope.{HasReading}
-use Rattle.lola_elab.proofs.BitWidths.{negated_value, both_value, name_value, other_bit}
+use Rattle.lola_elab.proofs.BitWidths.{negated_value, other_bit}
 use Rattle.lola_elab.proofs.scope.+resolve.Goals as goal
 
 pub returns-in_ok-negation-in-Ok-clause-means : goal.returns-in_ok-negation-in-Ok-clause-means
