@@ -1,5 +1,5 @@
--- What names stand for in a module. Where a name is declared twice, its first declaration counts.
-use Rattle.std.specs.Prelude.{ℕ, cond, bytes_eq, List, [], ◌∷◌, ◌++◌, map, Option, Some, None}
+-- What names stand for in a module. Where a name is declared twice, its first declaration in the text counts.
+use Rattle.std.specs.Prelude.{ℕ, cond, nat_lt, bytes_eq, List, [], ◌∷◌, ◌++◌, map, Option, Some, None}
 use Rattle.lola_tree.specs.declared.named.Count.{Count}
 use Rattle.lola_tree.specs.declared.named.Count.TheVariants as count
 use Rattle.lola_tree.specs.declared.named.Ref.{Ref}
@@ -28,7 +28,7 @@ entry_at (port p) = p.at
 entry_at (constant c) = c.at
 entry_at (local l) = l.at
 
--- the declarations of a module in text order
+-- the declarations of a module: ports, constants and local names, each in text order
 abbrev pub entries : ModuleTree → List Entry
 entries m = map port m.ports ++ (map constant m.consts ++ map local m.locals)
 
@@ -36,10 +36,16 @@ entries m = map port m.ports ++ (map constant m.consts ++ map local m.locals)
 abbrev pub Names : Type 0
 Names = List ℕ → Option Entry
 
--- the first declaration of a name
+-- the earlier of two declarations
+abbrev pub earlier : Option Entry → Option Entry → Option Entry
+earlier None other = other
+earlier (Some e) None = Some e
+earlier (Some e) (Some f) = cond (nat_lt (entry_at f) (entry_at e)) (Some f) (Some e)
+
+-- the earliest declaration of a name
 abbrev pub first_named : List Entry → Names
 first_named [] name = None
-first_named (e ∷ more) name = cond (bytes_eq (entry_name e) name) (Some e) (first_named more name)
+first_named (e ∷ more) name = earlier (cond (bytes_eq (entry_name e) name) (Some e) None) (first_named more name)
 
 abbrev pub names_of : ModuleTree → Names
 names_of m = first_named (entries m)

@@ -1,5 +1,5 @@
 -- The faults of names: what is declared twice or not at all, and what is used as what it isn't.
-use Rattle.std.specs.Prelude.{ℕ, Bool, true, false, not, cond, ◌&&◌, bytes_eq, List, [], ◌∷◌, ◌++◌, Option, Some, None}
+use Rattle.std.specs.Prelude.{ℕ, Bool, true, false, not, cond, ◌&&◌, nat_lt, bytes_eq, List, [], ◌∷◌, ◌++◌, Option, Some, None}
 use Rattle.lola_tree.specs.declared.named.Named.{Named}
 use Rattle.lola_tree.specs.declared.named.Count.{Count}
 use Rattle.lola_tree.specs.declared.named.Count.TheVariants as count
@@ -13,30 +13,35 @@ use Rattle.lola_tree.specs.declared.module.LocalKind.{LocalKind}
 use Rattle.lola_tree.specs.declared.module.LocalKind.TheVariants.{Reg, Var, Inst}
 use Rattle.lola_tree.specs.declared.module.Local.{Local}
 use Rattle.lola_tree.specs.Tree.{Tree, number, whole, bit, slice, index, concat, negation, binary, choice, Parts, no_part, one_part, ActualTree, StmtTree, assignment, call, pad, ModuleTree}
-use Rattle.lola_tree.specs.Names.{Entry, port, constant, local, entry_name, entry_at, entry_shape, kind_shape, entries, Names, count_number, ref_name}
+use Rattle.lola_tree.specs.Names.{Entry, port, constant, local, entry_name, entry_at, entry_shape, kind_shape, entries, earlier, Names, count_number, ref_name}
 use Rattle.lola_tree.specs.Width.{checked_place}
 use Rattle.lola_width.specs.declared.fault.SourceFault.{SourceFault}
 use Rattle.lola_width.specs.declared.fault.SourceFault.TheVariants.{Doubled, Unknown, Kind, ArrayShape, Clock}
 use Rattle.lola_width.specs.declared.uses.Use.{Use}
 use Rattle.lola_width.specs.declared.uses.Use.TheVariants as use_
 use Rattle.lola_width.specs.declared.interface.Pin.{Pin}
-use Rattle.lola_width.specs.Interface.{Seen, or_first, bare_name, instance_pins, listed, first_pin, later_pins, is_clock}
+use Rattle.lola_width.specs.Interface.{Seen, bare_name, instance_pins, listed, first_pin, later_pins, is_clock}
 
 abbrev pub no_names : Names
 no_names name = None
 
--- names with one more declaration; of two under one name the first counts
+-- a declaration stands before another of its name, if there is one
+abbrev pub comes_first : Entry → Option Entry → Bool
+comes_first e None = true
+comes_first e (Some f) = nat_lt (entry_at e) (entry_at f)
+
+-- names with one more declaration; of two under one name the earlier counts
 abbrev pub names_with : Names → List ℕ → Entry → Names
-names_with names name e other = or_first (names other) (cond (bytes_eq name other) (Some e) None)
+names_with names name e other = earlier (names other) (cond (bytes_eq name other) (Some e) None)
 
 abbrev pub names_with_all : Names → List Entry → Names
 names_with_all names [] = names
 names_with_all names (e ∷ more) = names_with_all (names_with names (entry_name e) e) more
 
--- a declaration of a name that has one already
+-- the later of two declarations of a name
 abbrev pub doubled : Option Entry → ℕ → List ℕ → List SourceFault
 doubled None at name = []
-doubled (Some e) at name = Doubled at name ∷ []
+doubled (Some e) at name = Doubled (cond (nat_lt at (entry_at e)) (entry_at e) at) name ∷ []
 
 abbrev pub doubled_faults : Names → List Entry → List SourceFault
 doubled_faults names [] = []

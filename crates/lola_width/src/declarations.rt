@@ -3,14 +3,35 @@ ghost use Rattle.lola_tree.specs.Names.{entry_name, port, constant, local, entri
 ghost use Rattle.lola_tree.specs.Tree.{module_tree};
 ghost use Rattle.lola_width.specs.NameFaults.{no_names, names_with, names_with_all, doubled, doubled_faults};
 ghost use Rattle.lola_width.specs.Order.{first_after};
-ghost use Rattle.lola_width.specs.Table.{entry_of, found};
+ghost use Rattle.lola_width.specs.Table.{entry_of, some_entry, found};
 
 use crate::declared::Declared;
 use crate::fault::{SourceFault, note};
-use crate::table::Table;
+use crate::table::{Table, declared_at};
 use lola_bits::{Memory, Name};
 use lola_tree::{Const, Local, Module, Port};
 use std::alloc::Global;
+
+/// Notes the later of two declarations of a name, of which one is at a place.
+fn note_doubled(
+    alloc: Global,
+    other: Option<Declared>,
+    at: u32,
+    name: &str,
+    first: &mut Option<SourceFault>,
+) -> Result<(), Memory>
+    ensures { OnOk result (first.new ≡ first_after first.old (doubled (some_entry other.entry) at name.now)) }
+{
+    match other {
+        Some(other) => {
+            let at = at.max(declared_at(other));
+            let name = Name::new(alloc, name)?;
+            note(first, SourceFault::Doubled { at, name });
+        }
+        None => {}
+    }
+    Ok(())
+}
 
 /// Adds a declaration, and notes where its name is declared already.
 #[tactic(auto, using(crate::proofs::Faults::first_append))]
@@ -25,10 +46,7 @@ fn declare<'a>(
     ensures table { OnOk result (found table.new ≡ names_with (found table.old) name.now (entry_of declared.entry)) }
     ensures first { OnOk result (first.new ≡ first_after first.old (doubled (found table.old name.now) at name.now)) }
 {
-    if table.find(name).is_some() {
-        let name = Name::new(alloc, name)?;
-        note(first, SourceFault::Doubled { at, name });
-    }
+    note_doubled(alloc, table.find(name), at, name, first)?;
     table.add(alloc, name, declared)
 }
 
