@@ -7,17 +7,17 @@ use Rattle.lola_tree.specs.declared.module.Port.{Port}
 use Rattle.lola_tree.specs.declared.module.LocalKind.{LocalKind}
 use Rattle.lola_tree.specs.declared.module.LocalKind.TheVariants.{Reg, Var, Inst}
 use Rattle.lola_tree.specs.declared.module.Local.{Local}
-use Rattle.lola_elab.proofs.Lists.{from_map, to_map, from_filter, distinct_front, distinct_back}
+use Rattle.lola_onebit.proofs.Lists.{from_map, to_map, from_filter, distinct_front, distinct_back}
 use Rattle.lola_tree.specs.Tree.{ModuleTree, SourceTree}
 use Rattle.lola_tree.specs.Names as Names
 use Rattle.lola_tree.specs.Value.{Path, Values}
 use Rattle.lola_tree.specs.Cycle.{IsIn, IsRoot, IsRegisterOf, IsInputOf, IsRegister, IsInput, IsState, IsGiven, Cycle, Next}
 use Rattle.lola_tree.specs.Signals.{is_inward, is_among, clock_names, name_of_register, input_names, register_names, values_of, root_inputs, root_registers}
-use Rattle.lola_elab.specs.Logic.{AreBits}
-use Rattle.lola_elab.specs.Small.{AreDistinct, names_of, IsSmallSource}
-use Rattle.lola_elab.specs.Elaborated.{leaf_names, Elaborates}
-use Rattle.lola_elab.proofs.Bits.{root_is, below_two, suits_bit, register_bit, port_bit}
-use Rattle.lola_elab.proofs.Names.{is_register, is_input}
+use Rattle.lola_onebit.specs.Logic.{AreBits}
+use Rattle.lola_onebit.specs.Small.{AreDistinct, names_of, IsSmallSource}
+use Rattle.lola_onebit.specs.Elaborated.{leaf_names, Elaborates}
+use Rattle.lola_onebit.proofs.Bits.{root_is, below_two, suits_bit, register_bit, port_bit}
+use Rattle.lola_onebit.proofs.Names.{is_register, is_input}
 use Rattle.lola_app.specs.declared.claim.Claim.{Claim}
 use Rattle.lola_app.specs.Claiming.{face_of, AreLeaves}
 use Rattle.lola_app.specs.Trial.{next_registers}

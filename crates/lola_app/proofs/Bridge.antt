@@ -2,15 +2,15 @@
 use Rattle.std.proofs.Common.{◌≡◌, ℕ, zero, suc, ◌+◌, ◌-◌, ◌<◌, ◌≤◌, ◌^◌, Bool, true, false, not, cond, List, [], ◌∷◌, ◌++◌, length, map, take, drop, Some, refl, sym, ap, ap₂, ◌∙◌, subst, arith, inl, inr, length-append}
 use Rattle.std.specs.Prelude.{slice_get, slice_index_or, ◌&&◌, if◌then◌else◌, string_bytes, bytes_eq}
 use Rattle.std.proofs.lemmas.Option.{slice_get_within}
-use Rattle.lola_elab.proofs.Lists.{from_filter}
+use Rattle.lola_onebit.proofs.Lists.{from_filter}
 use Rattle.std.proofs.lemmas.List.{length-take-le, take-append-drop}
 use Rattle.std.proofs.Common.{length-drop}
 use Rattle.lola_tree.specs.Tree.{SourceTree}
 use Rattle.lola_tree.specs.Value.{Values}
 use Rattle.lola_tree.specs.Cycle.{IsIn, IsState, IsGiven, Cycle, Next}
 use Rattle.lola_tree.specs.Signals.{values_of, root_inputs, root_registers}
-use Rattle.lola_elab.specs.Logic.{logic_value, bit_number, AreBits}
-use Rattle.lola_elab.specs.Elaborated.{HasOneCycle}
+use Rattle.lola_onebit.specs.Logic.{logic_value, bit_number, AreBits}
+use Rattle.lola_onebit.specs.Elaborated.{HasOneCycle}
 use Rattle.tab_tree.specs.declared.table.Active.{Active}
 use Rattle.tab_tree.specs.Table.{active_value, idle_value, StateTree, SetTree, ClassTree, TableTree}
 use Rattle.tab_tree.specs.Step.{fits, source_names, no_names, class_names, state_value, set_value, loaded_word, table_value}

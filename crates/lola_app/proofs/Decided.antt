@@ -3,10 +3,10 @@ use Rattle.std.proofs.Common.{◌≡◌, ℕ, Bool, List, [], ◌∷◌, length,
 use Rattle.lola_tree.specs.Tree.{ModuleTree, SourceTree}
 use Rattle.lola_tree.specs.Value.{Values}
 use Rattle.lola_tree.specs.Cycle.{IsState, IsGiven}
-use Rattle.lola_elab.specs.declared.design.Design.{Design}
-use Rattle.lola_elab.specs.Logic.{bit_number}
-use Rattle.lola_elab.specs.Small.{IsSmallSource}
-use Rattle.lola_elab.specs.Elaborated.{Elaborates, HasOneCycle}
+use Rattle.lola_onebit.specs.declared.design.Design.{Design}
+use Rattle.lola_onebit.specs.Logic.{bit_number}
+use Rattle.lola_onebit.specs.Small.{IsSmallSource}
+use Rattle.lola_onebit.specs.Elaborated.{Elaborates, HasOneCycle}
 use Rattle.tab_tree.specs.Table.{TableTree}
 use Rattle.lola_app.specs.declared.claim.Claim.{Claim}
 use Rattle.lola_app.specs.Accepts.{Fits, AcceptsTable}
@@ -19,7 +19,7 @@ use Rattle.lola_app.specs.Reply.{Line, Outcome, accepted, failed, wrong_words, s
 use Rattle.lola_app.specs.Serve.{IsYes, IsNo, IsDecided, lines_of}
 use Rattle.lola_app.specs.Small.{Interface, interface_of, IsSmallTable}
 use Rattle.lola_app.specs.Tried.{bit_lines, printed_names, AllPass, OneFails, IsTried}
-use Rattle.lola_elab.proofs.Bits.{root_is}
+use Rattle.lola_onebit.proofs.Bits.{root_is}
 use Rattle.lola_app.proofs.Behaves.{Behaves, behaves}
 use Rattle.lola_app.proofs.Leaves.{bit_one}
 use Rattle.lola_app.proofs.Verdict.{IsEntry, each_long, each_entry, all_hold, first_fails}

@@ -5,11 +5,11 @@ use Rattle.std.specs.List.{AllByRecursion}
 use Rattle.lola_tree.specs.declared.named.Ref.{Ref}
 use Rattle.lola_tree.specs.Tree.{Tree}
 use Rattle.lola_tree.specs.Value.{Values}
-use Rattle.lola_elab.specs.declared.logic.Logic.{Logic}
-use Rattle.lola_elab.specs.declared.scope.Scope.{Scope}
-use Rattle.lola_elab.specs.Logic.{logic_value, bit_number}
-use Rattle.lola_elab.specs.Scope.{HasReading, Reads}
-use Rattle.lola_elab.specs.Small.{IsSmallExpr}
+use Rattle.lola_onebit.specs.declared.logic.Logic.{Logic}
+use Rattle.lola_onebit.specs.declared.scope.Scope.{Scope}
+use Rattle.lola_onebit.specs.Logic.{logic_value, bit_number}
+use Rattle.lola_onebit.specs.Scope.{HasReading, Reads}
+use Rattle.lola_onebit.specs.Small.{IsSmallExpr}
 use Rattle.tab_tree.specs.Table.{StateTree, SetTree, ClassTree, TableTree}
 use Rattle.tab_tree.specs.Step.{source_names, class_names, set_value, loaded_word, table_value}
 use Rattle.lola_app.specs.declared.claim.Claim.{Claim}

@@ -7,9 +7,9 @@ use Rattle.std.proofs.Math.Seq.{get_or-append_right}
 use Rattle.lola_tree.specs.Value.{Path, Values}
 use Rattle.lola_tree.specs.Cycle.{IsIn}
 use Rattle.lola_tree.specs.Signals.{values_of}
-use Rattle.lola_elab.specs.Logic.{bit_number, AreBits}
-use Rattle.lola_elab.specs.Small.{AreDistinct}
-use Rattle.lola_elab.proofs.Lists.{same_name, other_name}
+use Rattle.lola_onebit.specs.Logic.{bit_number, AreBits}
+use Rattle.lola_onebit.specs.Small.{AreDistinct}
+use Rattle.lola_onebit.proofs.Lists.{same_name, other_name}
 use Rattle.tab_tree.specs.Step.{name_of}
 use Rattle.lola_app.specs.Obligations.{without}
 use Rattle.lola_app.specs.Trial.{with_reset}

@@ -6,8 +6,8 @@ use Rattle.std.proofs.lemmas.Fmt.{decimal_digit}
 use Rattle.lola_tree.specs.Tree.{SourceTree}
 use Rattle.lola_tree.specs.Value.{Values}
 use Rattle.lola_tree.specs.Cycle.{IsState, IsGiven}
-use Rattle.lola_elab.specs.Logic.{bit_number, AreBits}
-use Rattle.lola_elab.specs.Elaborated.{HasOneCycle}
+use Rattle.lola_onebit.specs.Logic.{bit_number, AreBits}
+use Rattle.lola_onebit.specs.Elaborated.{HasOneCycle}
 use Rattle.tab_tree.specs.Table.{StateTree, SetTree, ClassTree, TableTree}
 use Rattle.lola_app.specs.declared.claim.Claim.{Claim}
 use Rattle.lola_app.specs.declared.claim.State.{State}

@@ -3,8 +3,8 @@
 use Rattle.std.specs.Prelude.{◌≡◌, ℕ, ◌≤◌, List, [], ◌∷◌, ◌++◌, length, map, Bool, false, Some, slice_get, slice_index_or, string_bytes}
 use Rattle.lola_tree.specs.Value.{Values}
 use Rattle.lola_tree.specs.Signals.{values_of}
-use Rattle.lola_elab.specs.declared.design.Design.{Design}
-use Rattle.lola_elab.specs.Logic.{logic_value, bit_number, AreBits}
+use Rattle.lola_onebit.specs.declared.design.Design.{Design}
+use Rattle.lola_onebit.specs.Logic.{logic_value, bit_number, AreBits}
 use Rattle.tab_tree.specs.Table.{StateTree, SetTree, ClassTree, TableTree}
 use Rattle.tab_tree.specs.Step.{source_names, no_names, class_names, state_value, set_value, loaded_word, table_value}
 use Rattle.lola_app.specs.declared.claim.Claim.{Claim}

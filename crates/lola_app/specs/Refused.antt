@@ -14,9 +14,9 @@ use Rattle.lola_parse.specs.Long.{IsTooLong}
 use Rattle.lola_width.specs.declared.fault.SourceFault.{SourceFault as SizeFault}
 use Rattle.lola_width.specs.declared.fault.SourceFault.TheVariants as size
 use Rattle.lola_width.specs.Sized.{IsWellSized, first_fault}
-use Rattle.lola_elab.specs.declared.fault.ElabError.{ElabError}
-use Rattle.lola_elab.specs.declared.fault.ElabError.TheVariants as elab
-use Rattle.lola_elab.specs.Small.{IsSmallSource}
+use Rattle.lola_onebit.specs.declared.fault.ElabError.{ElabError}
+use Rattle.lola_onebit.specs.declared.fault.ElabError.TheVariants as elab
+use Rattle.lola_onebit.specs.Small.{IsSmallSource}
 use Rattle.lola_app.specs.declared.fault.SourceFault.{SourceFault}
 use Rattle.lola_app.specs.declared.fault.SourceFault.TheVariants.{BadByte, NumberTooLarge, OpenComment, Syntax, IllSized, NotBuilt}
 use Rattle.lola_app.specs.declared.fault.SourceError.{SourceError}

@@ -4,7 +4,7 @@ use Rattle.std.specs.List.{AllByRecursion}
 use Rattle.lola_tree.specs.Tree.{SourceTree}
 use Rattle.lola_tree.specs.Value.{Values}
 use Rattle.lola_tree.specs.Cycle.{IsState, IsGiven}
-use Rattle.lola_elab.specs.Elaborated.{HasOneCycle}
+use Rattle.lola_onebit.specs.Elaborated.{HasOneCycle}
 use Rattle.tab_tree.specs.Table.{TableTree}
 use Rattle.tab_tree.specs.Step.{inside_classes}
 use Rattle.lola_app.specs.Accepts.{Accepts, AcceptsTable}

@@ -5,7 +5,7 @@ use Rattle.lola_tree.specs.declared.named.Ref.{Ref}
 use Rattle.lola_tree.specs.Tree.{Tree, number, whole, bit, slice, index, concat, negation, binary, choice, ModuleTree}
 use Rattle.lola_tree.specs.Cycle.{IsIn}
 use Rattle.lola_tree.specs.Signals.{input_names, register_names}
-use Rattle.lola_elab.specs.Small.{IsBit, IsSmallExpr, AreDistinct}
+use Rattle.lola_onebit.specs.Small.{IsBit, IsSmallExpr, AreDistinct}
 use Rattle.tab_tree.specs.Table.{StateTree, SetTree, PhaseTree, ClassTree, TableTree}
 use Rattle.tab_tree.specs.Step.{loads_first}
 

@@ -1,7 +1,7 @@
 -- When an obligation holds at a valuation of its free bits, over the leaves of a claim.
 use Rattle.std.specs.Prelude.{ℕ, ◌+◌, ◌-◌, Bool, true, false, not, cond, ◌&&◌, List, ◌∷◌, ◌++◌, map, take, drop, length, Option, Some, None, slice_get, slice_index_or}
-use Rattle.lola_elab.specs.declared.logic.Logic.{Logic}
-use Rattle.lola_elab.specs.Logic.{logic_value, bit_number}
+use Rattle.lola_onebit.specs.declared.logic.Logic.{Logic}
+use Rattle.lola_onebit.specs.Logic.{logic_value, bit_number}
 use Rattle.lola_app.specs.declared.claim.Claim.{Claim}
 use Rattle.lola_app.specs.declared.claim.State.{State}
 use Rattle.lola_app.specs.declared.claim.Start.{Start}

@@ -10,7 +10,7 @@ use crate::roles::roles_of;
 use crate::rows::{check_sets, claimed_states, starts_of};
 use crate::scopes::{class_scope, register_scope};
 use crate::states::shown_states;
-use lola_elab::{Design, Logic};
+use lola_onebit::{Design, Logic};
 use std::alloc::Global;
 use tab_tree::Table;
 

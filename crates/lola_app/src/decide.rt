@@ -1,14 +1,14 @@
 ghost use Rattle.std.specs.Prelude.{◌≡◌, ◌≤◌, ◌<◌, ◌^◌, ◌+◌, ◌++◌, length, false, map, IfOk, OnOk, MatchOption, slice_get, slice_index_or};
-ghost use Rattle.lola_elab.specs.declared.logic.Logic.{Logic};
+ghost use Rattle.lola_onebit.specs.declared.logic.Logic.{Logic};
 ghost use Rattle.lola_app.specs.Trial.{with_reset, next_leaves, next_leaf, place_fits, start_passes, state_passes, reset_passes, end_passes, premises, passes, free_count};
 ghost use Rattle.lola_app.specs.Valuations.{bits_of, Always, IsLeast};
 ghost use Rattle.lola_app.specs.Deciding.{IsDecidedBy};
-ghost use Rattle.lola_elab.specs.Logic.{logic_value};
+ghost use Rattle.lola_onebit.specs.Logic.{logic_value};
 ghost use Rattle.std.specs.Option.{option_copied};
 
 use crate::claim::{Claim, Start, State};
 use crate::obligation::{Goal, Obligation, Which};
-use lola_elab::{Logic, eval};
+use lola_onebit::{Logic, eval};
 use std::alloc::{AllocError, Global};
 
 /// Whether all obligations hold at every valuation, or the number of the first that fails with its

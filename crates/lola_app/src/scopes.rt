@@ -1,9 +1,9 @@
 ghost use Rattle.std.specs.Prelude.{◌≡◌, ◌+◌, ◌≤◌, [], ◌∷◌, ◌++◌, length, map, string_bytes, IfOk, OnOk};
-ghost use Rattle.lola_elab.specs.Leaves.{leaves_from, shown};
+ghost use Rattle.lola_onebit.specs.Leaves.{leaves_from, shown};
 ghost use Rattle.lola_app.specs.Scoping.{HasRegisters, HasClassNames, state_entries};
 
 use crate::states::Shown;
-use lola_elab::{Design, Entry, Reading, Scope};
+use lola_onebit::{Design, Entry, Reading, Scope};
 use std::alloc::{AllocError, Global};
 
 /// The registers behind an `@`.

@@ -2,7 +2,7 @@ ghost use Rattle.std.specs.Prelude.{◌≡◌, ◌↔◌, ◌+◌, ◌≤◌, le
 ghost use Rattle.std.specs.List.{AllByRecursion};
 ghost use Rattle.lola_tree.specs.Tree.{tree};
 ghost use Rattle.tab_tree.specs.Table.{state_tree};
-ghost use Rattle.lola_elab.specs.Small.{IsBit};
+ghost use Rattle.lola_onebit.specs.Small.{IsBit};
 ghost use Rattle.lola_app.specs.Claiming.{AreEach, face_of};
 ghost use Rattle.lola_app.specs.Shown.{IsShown, IsSourceName};
 ghost use Rattle.lola_app.specs.Small.{is_digit, are_digits, is_taken, ShowsRegister, IsSmallState, AreSmallStates};
@@ -10,7 +10,7 @@ ghost use Rattle.lola_app.specs.Small.{is_digit, are_digits, is_taken, ShowsRegi
 use crate::fault::ReadError;
 use crate::names::{are_distinct_states, place_of};
 use lola_bits::Name;
-use lola_elab::Design;
+use lola_onebit::Design;
 use lola_tree::{Count, Expr, Shape};
 use std::alloc::Global;
 use tab_tree::StateRow;

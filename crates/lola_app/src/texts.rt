@@ -16,7 +16,7 @@ use crate::fault::{ReadError, SourceError};
 use crate::laws::headline;
 use crate::reply::Reply;
 use crate::trial::try_claim;
-use lola_elab::{Design, one_cycle, read_design};
+use lola_onebit::{Design, one_cycle, read_design};
 use lola_parse::{parse, tokens_lie_within};
 use lola_scan::{ScanError, Token, one_reading, scan};
 use lola_tree::Source;

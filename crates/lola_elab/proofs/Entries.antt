@@ -37,6 +37,11 @@ first_is (x ∷ xs) e distinct (inr later) =
 pub port_named : (m : ModuleTree) (p : Port) → AreDistinct (map entry_name (entries m)) → IsIn p m.ports → names_of m p.name ≡ Some (port p)
 port_named m p distinct is = first_is (entries m) (port p) distinct (in_front (port p) (map port m.ports) (map constant m.consts ++ map local m.locals) (to_map port p m.ports is))
 
+pub const_named : (m : ModuleTree) (c : Const) → AreDistinct (map entry_name (entries m)) → IsIn c m.consts → names_of m c.name ≡ Some (constant c)
+const_named m c distinct is =
+    first_is (entries m) (constant c) distinct (in_back (constant c) (map port m.ports) (map constant m.consts ++ map local m.locals)
+    (in_front (constant c) (map constant m.consts) (map local m.locals) (to_map constant c m.consts is)))
+
 pub local_named : (m : ModuleTree) (l : Local) → AreDistinct (map entry_name (entries m)) → IsIn l m.locals → names_of m l.name ≡ Some (local l)
 local_named m l distinct is =
     first_is (entries m) (local l) distinct (in_back (local l) (map port m.ports) (map constant m.consts ++ map local m.locals)

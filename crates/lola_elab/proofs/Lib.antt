@@ -1,13 +1,26 @@
+mod FaultLists
+mod SizedBody
+mod SizedClock
+mod SizedNames
+mod SizedValues
+mod WellSized
+pub mod Below
 pub mod BitWidths
 pub mod Bits
+pub mod Declared
 pub mod Entries
-pub mod LeafNumbers
-pub mod LeafScope
+pub mod Evaluates
+pub mod FlatMeans
+pub mod FlatParts
 pub mod Lists
 pub mod Names
 pub mod NewNames
 pub mod OneCycle
+pub mod Roots
 pub mod Statements
 pub mod Steps
+pub mod Tables
 pub mod WellDeclared
 pub mod Whole
+pub mod Widths
+mod BitNumbers

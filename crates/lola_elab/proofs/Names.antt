@@ -1,5 +1,5 @@
 -- The names of a module by what they stand for.
-use Rattle.std.proofs.Common.{◌≡◌, ℕ, true, false, not, ◌&&◌, List, [], ◌∷◌, map, refl, sym, ◌∙◌, ap, subst, inl, inr}
+use Rattle.std.proofs.Common.{◌≡◌, ℕ, true, false, not, ◌&&◌, List, [], ◌∷◌, ◌++◌, refl, sym, ◌∙◌, ap, subst, inl, inr}
 use Rattle.std.proofs.lemmas.Bool.{false≢true, and_parts, and_from, not-true, not_from_false}
 use Rattle.lola_tree.specs.declared.named.Named.{Named}
 use Rattle.lola_tree.specs.declared.named.Shape.{Shape}
@@ -12,8 +12,10 @@ use Rattle.lola_tree.specs.declared.module.Local.{Local}
 use Rattle.lola_tree.specs.Tree.{ModuleTree}
 use Rattle.lola_tree.specs.Cycle.{IsIn, IsRegisterOf, IsInputOf}
 use Rattle.lola_tree.specs.Signals.{clock_of, clock_names, is_inward, is_among, input_names, name_of_register, register_names}
-use Rattle.lola_elab.specs.Small.{IsTarget, AreDistinct, names_of}
-use Rattle.lola_elab.proofs.Lists.{to_map, from_map, in_filter, from_filter, in_front, in_back, in_either, among, not_among, same_item, distinct_front, apart}
+use Rattle.lola_tree.specs.declared.module.Const.{Const}
+use Rattle.lola_elab.specs.Small.{IsTarget, AreDistinct}
+use Rattle.lola_elab.specs.Declares.{port_names, const_names, local_names}
+use Rattle.lola_elab.proofs.Lists.{to_map, from_map, in_filter, from_filter, in_front, in_back, in_either, among, not_among, same_item, distinct_front, distinct_back, apart}
 
 -- a local that is a register, by its name
 pub record IsRegisterIn (locals : List Local) (name : List ℕ) : Type 0 where
@@ -108,21 +110,39 @@ input_listed m name type i =
     (and_from (is_inward p.way) (not (is_among (clock_names m.locals) p.name)) (ap is_inward i.inward) (not_from_false (is_among (clock_names m.locals) p.name) off)) in
     subst (λ (n : List ℕ). IsIn n (input_names m)) (sym i.named) (to_map (λ (p : Port). p.name) p _ kept)
 
+-- the names of ports, constants and locals
+abbrev pub all_names : ModuleTree → List (List ℕ)
+all_names m = port_names m.ports ++ (const_names m.consts ++ local_names m.locals)
+
 -- an input is no target
-pub input_no_target : (m : ModuleTree) (name : List ℕ) (type : Shape) → AreDistinct (names_of m) → IsInputOf m name type → IsTarget m name → ⊥
+pub input_no_target : (m : ModuleTree) (name : List ℕ) (type : Shape) → AreDistinct (all_names m) → IsInputOf m name type → IsTarget m name → ⊥
 input_no_target m name type distinct i (inl (p, declared, outward, named)) =
-    let front = distinct_front (map (λ (p : Port). p.name) m.ports) (map (λ (l : Local). l.name) m.locals) distinct in
+    let front = distinct_front (port_names m.ports) (const_names m.consts ++ local_names m.locals) distinct in
     let one : i.port ≡ p = same_item (λ (p : Port). p.name) i.port p m.ports front i.declared declared (sym i.named ∙ named) in
     let both : Inward ≡ Outward = sym i.inward ∙ ap (λ (p : Port). p.way) one ∙ outward in
     cc
 input_no_target m name type distinct i (inr (clock, other, r)) =
-    apart name (map (λ (p : Port). p.name) m.ports) (map (λ (l : Local). l.name) m.locals) distinct
-    (subst (λ (n : List ℕ). IsIn n (map (λ (p : Port). p.name) m.ports)) (sym i.named) (to_map (λ (p : Port). p.name) i.port m.ports i.declared))
-    (subst (λ (n : List ℕ). IsIn n (map (λ (l : Local). l.name) m.locals)) (sym r.named) (to_map (λ (l : Local). l.name) r.local m.locals r.declared))
+    apart name (port_names m.ports) (const_names m.consts ++ local_names m.locals) distinct
+    (subst (λ (n : List ℕ). IsIn n (port_names m.ports)) (sym i.named) (to_map (λ (p : Port). p.name) i.port m.ports i.declared))
+    (in_back name (const_names m.consts) (local_names m.locals) (subst (λ (n : List ℕ). IsIn n (local_names m.locals)) (sym r.named) (to_map (λ (l : Local). l.name) r.local m.locals r.declared)))
 
 -- an OUT port is no register
-pub output_no_register : (m : ModuleTree) (p : Port) (clock : List ℕ) (type : Shape) → AreDistinct (names_of m) → IsIn p m.ports → IsRegisterOf m p.name clock type → ⊥
+pub output_no_register : (m : ModuleTree) (p : Port) (clock : List ℕ) (type : Shape) → AreDistinct (all_names m) → IsIn p m.ports → IsRegisterOf m p.name clock type → ⊥
 output_no_register m p clock type distinct declared r =
-    apart p.name (map (λ (p : Port). p.name) m.ports) (map (λ (l : Local). l.name) m.locals) distinct
+    apart p.name (port_names m.ports) (const_names m.consts ++ local_names m.locals) distinct
     (to_map (λ (p : Port). p.name) p m.ports declared)
-    (subst (λ (n : List ℕ). IsIn n (map (λ (l : Local). l.name) m.locals)) (sym r.named) (to_map (λ (l : Local). l.name) r.local m.locals r.declared))
+    (in_back p.name (const_names m.consts) (local_names m.locals) (subst (λ (n : List ℕ). IsIn n (local_names m.locals)) (sym r.named) (to_map (λ (l : Local). l.name) r.local m.locals r.declared)))
+
+-- a constant is no port and no local
+pub const_no_register : (m : ModuleTree) (c : Const) (clock : List ℕ) (type : Shape) → AreDistinct (all_names m) → IsIn c m.consts → IsRegisterOf m c.name clock type → ⊥
+const_no_register m c clock type distinct declared r =
+    apart c.name (const_names m.consts) (local_names m.locals) (distinct_back (port_names m.ports) (const_names m.consts ++ local_names m.locals) distinct)
+    (to_map (λ (c : Const). c.name) c m.consts declared)
+    (subst (λ (n : List ℕ). IsIn n (local_names m.locals)) (sym r.named) (to_map (λ (l : Local). l.name) r.local m.locals r.declared))
+
+pub const_no_target : (m : ModuleTree) (c : Const) → AreDistinct (all_names m) → IsIn c m.consts → IsTarget m c.name → ⊥
+const_no_target m c distinct declared (inl (p, port, outward, named)) =
+    apart c.name (port_names m.ports) (const_names m.consts ++ local_names m.locals) distinct
+    (subst (λ (n : List ℕ). IsIn n (port_names m.ports)) (sym named) (to_map (λ (p : Port). p.name) p m.ports port))
+    (in_front c.name (const_names m.consts) (local_names m.locals) (to_map (λ (c : Const). c.name) c m.consts declared))
+const_no_target m c distinct declared (inr (clock, type, r)) = const_no_register m c clock type distinct declared r

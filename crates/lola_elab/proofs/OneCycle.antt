@@ -1,33 +1,48 @@
 -- A small design has one cycle from each state under each input, and one state behind it.
-use Rattle.std.proofs.Common.{◌≡◌, ◌≢◌, ℕ, true, false, cond, List, [], ◌∷◌, map, Some, None, refl, sym, ◌∙◌, ap, ap₂, subst, inl, inr}
-use Rattle.std.specs.Prelude.{bytes_eq}
+use Rattle.std.proofs.Common.{◌≡◌, ◌≢◌, ℕ, true, false, cond, List, [], ◌∷◌, map, Option, Some, None, refl, sym, ◌∙◌, ap, ap₂, subst, inl, inr}
+use Rattle.std.specs.Prelude.{bytes_eq, nat_eq}
 use Rattle.std.proofs.lemmas.Bool.{cond-true, cond-false}
 use Rattle.lola_tree.specs.declared.named.Ref.{Ref}
 use Rattle.lola_tree.specs.declared.named.Shape.{Shape}
-use Rattle.lola_tree.specs.Tree.{Tree, number, whole, bit, slice, index, concat, negation, binary, choice, StmtTree, assignment, call, pad, ModuleTree, SourceTree}
-use Rattle.lola_bits.specs.Number.{inverted, operate}
-use Rattle.lola_tree.specs.Width.{Scope as Widths, width, scope_of}
-use Rattle.lola_tree.specs.Value.{Path, Values, value, or_zero, or_read}
+use Rattle.lola_tree.specs.declared.module.Const.{Const}
+use Rattle.lola_tree.specs.Names as Names
+use Rattle.lola_tree.specs.Names.{first_name, constant_number}
+use Rattle.lola_tree.specs.Tree.{Tree, number, whole, bit, slice, index, concat, negation, binary, choice, Parts, no_part, one_part, StmtTree, assignment, call, pad, ModuleTree, SourceTree}
+use Rattle.lola_bits.specs.Number.{bit_at, slice_of, joined, inverted, operate}
+use Rattle.lola_tree.specs.Width.{Scope as Widths, width, total_width, scope_of}
+use Rattle.lola_tree.specs.Value.{Path, Values, value, value_of_parts, or_zero, or_read, repeated}
 use Rattle.lola_tree.specs.Cycle.{IsIn, IsRoot, IsRegisterOf, IsRegister, IsInputOf, IsInput, IsState, IsGiven, names_at, Equation, Cycle, Next, NextBy}
 use Rattle.lola_tree.specs.Signals.{is_among, register_names, IsSignal, register, input, output}
-use Rattle.lola_elab.specs.Small.{IsSmallExpr, IsLeaf, IsReadable, IsTarget, IsSmallStmt, target_of, AreDistinct, IsSmallModule, IsSmallSource}
+use Rattle.lola_elab.specs.Small.{IsBuilt, AreBuilt, IsLeaf, IsReadable, IsTarget, IsSmallStmt, target_of, AreDistinct, IsSmallModule, IsSmallSource}
 use Rattle.lola_elab.specs.Elaborated.{HasOneCycle}
-use Rattle.lola_elab.proofs.Bits.{root_is}
+use Rattle.lola_elab.proofs.Roots.{root_is}
 use Rattle.lola_elab.proofs.Lists.{of_all, to_map, from_map, same_name, other_name, among, not_among}
-use Rattle.lola_elab.proofs.Names.{is_register, register_listed, input_no_target, output_no_register}
+use Rattle.lola_elab.proofs.Names.{is_register, register_listed, all_names, input_no_target, output_no_register}
+use Rattle.lola_elab.proofs.Entries.{const_named, entry_names}
 
 -- expressions have one value where their names have
-pub value_agrees : (P : Ref → Type 0) (widths : Widths) (v w : Ref → ℕ) → ((r : Ref) → P r → v r ≡ w r) → (e : Tree) → IsSmallExpr P e → value widths e v ≡ value widths e w
-value_agrees P widths v w same (number n width at) is = refl
-value_agrees P widths v w same (whole of) is = ap (or_read (widths.number of)) (same of is)
-value_agrees P widths v w same (negation e at) is = ap (inverted (or_zero (width widths e))) (value_agrees P widths v w same e is)
-value_agrees P widths v w same (binary o a b at) is =
-    ap₂ (operate o (or_zero (width widths a))) (value_agrees P widths v w same a is.1) (value_agrees P widths v w same b is.2)
-value_agrees P widths v w same (choice test first second at) is = absurd is
-value_agrees P widths v w same (bit of place at) is = absurd is
-value_agrees P widths v w same (slice of high low at) is = absurd is
-value_agrees P widths v w same (index of place at) is = absurd is
-value_agrees P widths v w same (concat parts at) is = absurd is
+mutual
+  pub value_agrees : (P : Ref → Type 0) (widths : Widths) (v w : Ref → ℕ) → ((r : Ref) → P r → or_read (widths.number r) (v r) ≡ or_read (widths.number r) (w r)) →
+      (e : Tree) → IsBuilt P e → value widths e v ≡ value widths e w
+  value_agrees P widths v w same (number n written at) is = refl
+  value_agrees P widths v w same (whole of) is = same of is
+  value_agrees P widths v w same (bit of place at) is = ap (λ x. bit_at x (or_zero (widths.count place))) (same of is)
+  value_agrees P widths v w same (slice of high low at) is = ap (λ x. slice_of x (or_zero (widths.count high)) (or_zero (widths.count low))) (same of is)
+  value_agrees P widths v w same (index of place at) is = absurd is
+  value_agrees P widths v w same (concat parts at) is = parts_agree P widths v w same parts is
+  value_agrees P widths v w same (negation e at) is = ap (inverted (or_zero (width widths e))) (value_agrees P widths v w same e is)
+  value_agrees P widths v w same (binary o a b at) is =
+      ap₂ (operate o (or_zero (width widths a))) (value_agrees P widths v w same a is.0) (value_agrees P widths v w same b is.1)
+  value_agrees P widths v w same (choice test first second at) is =
+      ap (λ x. cond (nat_eq x 1) (value widths first v) (value widths second v)) (value_agrees P widths v w same test is.0)
+      ∙ ap₂ (λ x y. cond (nat_eq (value widths test w) 1) x y) (value_agrees P widths v w same first is.1) (value_agrees P widths v w same second is.2)
+
+  parts_agree : (P : Ref → Type 0) (widths : Widths) (v w : Ref → ℕ) → ((r : Ref) → P r → or_read (widths.number r) (v r) ≡ or_read (widths.number r) (w r)) →
+      (ps : Parts) → AreBuilt P ps → value_of_parts widths ps v ≡ value_of_parts widths ps w
+  parts_agree P widths v w same no_part is = refl
+  parts_agree P widths v w same (one_part e times behind) is =
+      ap₂ (λ x y. joined (repeated (or_zero (widths.count times)) (or_zero (width widths e)) x) (or_zero (total_width widths behind)) y)
+      (value_agrees P widths v w same e is.0) (parts_agree P widths v w same behind is.1)
 
 -- the value that a statement assigns
 abbrev assigns : Widths → Values → StmtTree → ℕ
@@ -89,6 +104,14 @@ assigned_target m (assignment name (Some place) e at equals) is = absurd is
 assigned_target m (call name args at) is = absurd is
 assigned_target m (pad io inner drive release at) is = absurd is
 
+-- the declared names
+names_distinct : (m : ModuleTree) → IsSmallModule m → AreDistinct (all_names m)
+names_distinct m small = subst AreDistinct (entry_names m.ports m.consts m.locals) small.distinct
+
+-- the number of a constant
+constant_is : (m : ModuleTree) → IsSmallModule m → (r : Ref) (c : Const) → IsIn c m.consts → r.path ≡ c.name ∷ [] → (scope_of m).number r ≡ Some c.value
+constant_is m small r c is path = ap (λ (p : List (List ℕ)). constant_number (Names.names_of m (first_name p))) path ∙ ap constant_number (const_named m c small.distinct is)
+
 -- the values at a register and at an input
 at_register : (m : ModuleTree) (s inp : Values) (name clock : List ℕ) (type : Shape) → IsRegisterOf m name clock type → cycle_value m s inp name ≡ s (name ∷ [])
 at_register m s inp name clock type r =
@@ -100,11 +123,11 @@ at_other m s inp name none =
 
 at_input : (m : ModuleTree) (s inp : Values) (name : List ℕ) (type : Shape) → IsSmallModule m → IsInputOf m name type → cycle_value m s inp name ≡ inp (name ∷ [])
 at_input m s inp name type small i =
-    at_other m s inp name (λ clock other r. input_no_target m name type small.distinct i (inr (clock, other, r)))
+    at_other m s inp name (λ clock other r. input_no_target m name type (names_distinct m small) i (inr (clock, other, r)))
     ∙ assigned_not (scope_of m) m.body (before m s inp) (inp (name ∷ [])) name (λ is.
     let found = from_map target_of name m.body is in
     let t = found.0 in
-    input_no_target m name type small.distinct i
+    input_no_target m name type (names_distinct m small) i
     (subst (λ (n : List ℕ). IsTarget m n) (sym found.2) (assigned_target m t (of_all (IsSmallStmt m) t m.body small.statements found.1))))
 
 -- the cycle has the values from before at inputs and registers
@@ -114,18 +137,25 @@ before_register m s inp name clock type r = cond-true (is_among (register_names 
 before_input : (m : ModuleTree) (s inp : Values) (name : List ℕ) (type : Shape) → IsSmallModule m → IsInputOf m name type → given_value m s inp name ≡ inp (name ∷ [])
 before_input m s inp name type small i =
     cond-false (is_among (register_names m.locals) name) (s (name ∷ [])) (inp (name ∷ []))
-    (no_register m name (λ clock other r. input_no_target m name type small.distinct i (inr (clock, other, r))))
+    (no_register m name (λ clock other r. input_no_target m name type (names_distinct m small) i (inr (clock, other, r))))
 
 readable_same : (m : ModuleTree) (s inp : Values) (name : List ℕ) → IsSmallModule m → IsReadable m name → given_value m s inp name ≡ cycle_value m s inp name
 readable_same m s inp name small (inl (type, i)) = before_input m s inp name type small i ∙ sym (at_input m s inp name type small i)
 readable_same m s inp name small (inr (clock, type, r)) = before_register m s inp name clock type r ∙ sym (at_register m s inp name clock type r)
 
-leaf_same : (m : ModuleTree) (s inp : Values) → IsSmallModule m → (r : Ref) → IsLeaf m r → names_at [] (before m s inp) r ≡ names_at [] (in_cycle m s inp) r
-leaf_same m s inp small r (bare, (name, path, readable)) =
-    ap (before m s inp) path ∙ readable_same m s inp name small readable ∙ ap (in_cycle m s inp) (sym path)
+constant_same : (m : ModuleTree) → IsSmallModule m → (r : Ref) (c : Const) → IsIn c m.consts → r.path ≡ c.name ∷ [] → (x y : ℕ) → or_read ((scope_of m).number r) x ≡ or_read ((scope_of m).number r) y
+constant_same m small r c is path x y =
+    let e = constant_is m small r c is path in
+    ap (λ (o : Option ℕ). or_read o x) e ∙ sym (ap (λ (o : Option ℕ). or_read o y) e)
+
+leaf_same : (m : ModuleTree) (s inp : Values) → IsSmallModule m → (r : Ref) → IsLeaf m r →
+    or_read ((scope_of m).number r) (names_at [] (before m s inp) r) ≡ or_read ((scope_of m).number r) (names_at [] (in_cycle m s inp) r)
+leaf_same m s inp small r (bare, (name, path, inl readable)) =
+    ap (or_read ((scope_of m).number r)) (ap (before m s inp) path ∙ readable_same m s inp name small readable ∙ ap (in_cycle m s inp) (sym path))
+leaf_same m s inp small r (bare, (name, path, inr (c, is, named))) = constant_same m small r c is (path ∙ ap (λ (n : List ℕ). n ∷ []) named) (names_at [] (before m s inp) r) (names_at [] (in_cycle m s inp) r)
 
 equation : (m : ModuleTree) (s inp : Values) → IsSmallModule m → (t : StmtTree) → IsIn t m.body → IsSmallStmt m t → Equation m [] (in_cycle m s inp) t
-equation m s inp small (assignment name None e at equals) is (target, expr) = λ none.
+equation m s inp small (assignment name None e at equals) is (target, expr, widths) = λ none.
     at_other m s inp name none
     ∙ assigned_here (scope_of m) m.body (before m s inp) (inp (name ∷ [])) (assignment name None e at equals) small.once is
     ∙ value_agrees (IsLeaf m) (scope_of m) (names_at [] (before m s inp)) (names_at [] (in_cycle m s inp)) (leaf_same m s inp small) e expr
@@ -155,15 +185,17 @@ a_cycle S small s inp =
     }
 
 -- two cycles agree on what can be read, and so on what is assigned
-both_read : (S : SourceTree) (m : ModuleTree) (s inp v w : Values) → IsRoot S m → Cycle S s inp v → Cycle S s inp w → (r : Ref) → IsLeaf m r → names_at [] v r ≡ names_at [] w r
-both_read S m s inp v w root c d r (bare, (name, path, inl (type, i))) =
+both_read : (S : SourceTree) (m : ModuleTree) (s inp v w : Values) → IsRoot S m → IsSmallModule m → Cycle S s inp v → Cycle S s inp w → (r : Ref) → IsLeaf m r →
+    or_read ((scope_of m).number r) (names_at [] v r) ≡ or_read ((scope_of m).number r) (names_at [] w r)
+both_read S m s inp v w root small c d r (bare, (name, path, inl (inl (type, i)))) =
     let is : IsInput S r.path type = record { root = m; is_root = root; name = name; input = i; leads = path } in
-    c.inputs r.path type is ∙ sym (d.inputs r.path type is)
-both_read S m s inp v w root c d r (bare, (name, path, inr (clock, type, g))) =
+    ap (or_read ((scope_of m).number r)) (c.inputs r.path type is ∙ sym (d.inputs r.path type is))
+both_read S m s inp v w root small c d r (bare, (name, path, inl (inr (clock, type, g)))) =
     let is : IsRegister S r.path type = record { root = m; is_root = root; name = name; clock = clock; register = g; leads = path } in
-    c.registers r.path type is ∙ sym (d.registers r.path type is)
+    ap (or_read ((scope_of m).number r)) (c.registers r.path type is ∙ sym (d.registers r.path type is))
+both_read S m s inp v w root small c d r (bare, (name, path, inr (k, is, named))) = constant_same m small r k is (path ∙ ap (λ (n : List ℕ). n ∷ []) named) (names_at [] v r) (names_at [] w r)
 
-both_assigned : (m : ModuleTree) (v w : Values) (t : StmtTree) → ((r : Ref) → IsLeaf m r → names_at [] v r ≡ names_at [] w r) → IsSmallStmt m t → ((clock : List ℕ) (type : Shape) → IsRegisterOf m (target_of t) clock type → ⊥) → Equation m [] v t → Equation m [] w t → v (target_of t ∷ []) ≡ w (target_of t ∷ [])
+both_assigned : (m : ModuleTree) (v w : Values) (t : StmtTree) → ((r : Ref) → IsLeaf m r → or_read ((scope_of m).number r) (names_at [] v r) ≡ or_read ((scope_of m).number r) (names_at [] w r)) → IsSmallStmt m t → ((clock : List ℕ) (type : Shape) → IsRegisterOf m (target_of t) clock type → ⊥) → Equation m [] v t → Equation m [] w t → v (target_of t ∷ []) ≡ w (target_of t ∷ [])
 both_assigned m v w (assignment name None e at equals) same is none first second =
     first none ∙ value_agrees (IsLeaf m) (scope_of m) (names_at [] v) (names_at [] w) same e is.1 ∙ sym (second none)
 both_assigned m v w (assignment name (Some place) e at equals) same is none first second = absurd is
@@ -180,8 +212,8 @@ same_signal S small s inp v w c d path (output o) =
     let found = from_map target_of o.port.name m.body (small.small.each o.port.name (inl (o.port, declared, o.outward, refl))) in
     let t = found.0 in
     let none : (clock : List ℕ) (type : Shape) → IsRegisterOf m (target_of t) clock type → ⊥ = λ clock type r.
-    output_no_register m o.port clock type small.small.distinct declared (subst (λ (n : List ℕ). IsRegisterOf m n clock type) (sym found.2) r) in
-    let e : v (target_of t ∷ []) ≡ w (target_of t ∷ []) = both_assigned m v w t (both_read S m s inp v w root c d)
+    output_no_register m o.port clock type (names_distinct m small.small) declared (subst (λ (n : List ℕ). IsRegisterOf m n clock type) (sym found.2) r) in
+    let e : v (target_of t ∷ []) ≡ w (target_of t ∷ []) = both_assigned m v w t (both_read S m s inp v w root small.small c d)
     (of_all (IsSmallStmt m) t m.body small.small.statements found.1) none (c.holds m root t found.1) (d.holds m root t found.1) in
     let there : path ≡ target_of t ∷ [] = o.leads ∙ ap (λ (n : List ℕ). n ∷ []) found.2 in
     ap v there ∙ e ∙ ap w (sym there)

@@ -1,16 +1,16 @@
 -- Statements, one by one.
-use Rattle.std.proofs.Common.{◌≡◌, ◌≢◌, ◌↔◌, ℕ, ◌+◌, ◌<◌, Bool, true, false, cond, List, [], ◌∷◌, length, map, get_or, drop, Some, None, Ok, Err, refl, sym, ◌∙◌, ap, subst, inl, inr}
-use Rattle.std.specs.Prelude.{bytes_eq, IfOk, Result}
+use Rattle.std.proofs.Common.{◌≡◌, ◌≢◌, ◌↔◌, ℕ, ◌+◌, ◌<◌, Bool, true, false, cond, List, [], ◌∷◌, length, map, get_or, drop, Option, Some, None, refl, sym, ◌∙◌, ap, subst, inl, inr}
+use Rattle.std.specs.Prelude.{bytes_eq}
 use Rattle.std.specs.List.{AllByRecursion}
 use Rattle.std.proofs.lemmas.Bool.{false≢true, cond-true, cond-false, cases_Bool, false_from_ne_true}
 use Rattle.lola_tree.specs.declared.module.Stmt.{Stmt}
 use Rattle.lola_tree.specs.Tree.{Tree, StmtTree, assignment, call, pad, stmt_tree}
+use Rattle.lola_tree.specs.Width.{Scope as Widths, width}
 use Rattle.lola_tree.specs.Cycle.{IsIn}
-use Rattle.lola_elab.specs.declared.logic.Logic.{Logic}
-use Rattle.lola_elab.specs.declared.scope.Scope.{Scope}
-use Rattle.lola_elab.specs.Scope.{HasReading}
-use Rattle.lola_elab.specs.Small.{IsSmallExpr, target_of}
-use Rattle.lola_elab.specs.Assigned.{Assigns, IsWhole, AssignsOnce, IsSmallValue, Means, IsNextOf}
+use Rattle.lola_elab.specs.declared.flat.Flat.{Flat}
+use Rattle.lola_elab.specs.Meanings.{Meanings, HasMeaning, AreOf, IsFlatOf, HasNoFlat}
+use Rattle.lola_elab.specs.Small.{IsBuilt, target_of}
+use Rattle.lola_elab.specs.Assigned.{Assigns, IsWhole, AssignsOnce, IsSizedStmt, IsNextOf}
 use Rattle.lola_elab.proofs.Lists.{of_all, to_map, same_name, is_same_name, other_name}
 use Rattle.lola_elab.proofs.Steps.{drop_item, item_in}
 
@@ -18,21 +18,40 @@ use Rattle.lola_elab.proofs.Steps.{drop_item, item_in}
 pub target_is : (t : StmtTree) (name : List ℕ) (e : Tree) → Assigns t name e → target_of t ≡ name
 target_is t name e a = ap target_of a.is
 
-pub small_of : (scope : Scope) (t : StmtTree) (name : List ℕ) (e : Tree) → Assigns t name e → IsSmallValue scope t → IsSmallExpr (HasReading scope) e
-small_of scope t name e a small = subst (λ (t : StmtTree). IsSmallValue scope t) a.is small
+pub sized_of : (names : Meanings) (targets : List ℕ → Option ℕ) (scope : Widths) (t : StmtTree) (name : List ℕ) (e : Tree) → Assigns t name e → IsSizedStmt names targets scope t →
+    IsBuilt (HasMeaning names) e × ((wide : ℕ) × (targets name ≡ Some wide) × (width scope e ≡ Some wide))
+sized_of names targets scope t name e a sized = subst (λ (t : StmtTree). IsSizedStmt names targets scope t) a.is sized
 
-pub whole_of : (scope : Scope) (t : StmtTree) → IsSmallValue scope t → IsWhole t
-whole_of scope (assignment name None e at equals) small = tt
-whole_of scope (assignment name (Some place) e at equals) small = small
-whole_of scope (call name args at) small = small
-whole_of scope (pad io inner drive release at) small = small
+pub whole_of : (names : Meanings) (targets : List ℕ → Option ℕ) (scope : Widths) (t : StmtTree) → IsSizedStmt names targets scope t → IsWhole t
+whole_of names targets scope (assignment name None e at equals) sized = tt
+whole_of names targets scope (assignment name (Some place) e at equals) sized = sized
+whole_of names targets scope (call name args at) sized = sized
+whole_of names targets scope (pad io inner drive release at) sized = sized
+
+-- a statement whose value has a flat form of the target's width
+pub sized_is : (names : Meanings) (targets : List ℕ → Option ℕ) (t : StmtTree) (name : List ℕ) (e : Tree) (flat : Flat) (wide : ℕ) → Assigns t name e → IsFlatOf names e flat wide → targets name ≡ Some wide →
+    (scope : Widths) (widths : List ℕ) → AreOf names scope widths → IsSizedStmt names targets scope t
+sized_is names targets t name e flat wide a means is scope widths are =
+    subst (λ (t : StmtTree). IsSizedStmt names targets scope t) (sym a.is) (means.built, (wide, is, means.tree_width scope widths are))
+
+pub not_sized : (names : Meanings) (targets : List ℕ → Option ℕ) (t : StmtTree) (name : List ℕ) (e : Tree) (flat : Flat) (wide : ℕ) → Assigns t name e → IsFlatOf names e flat wide → (targets name ≡ Some wide → ⊥) →
+    (scope : Widths) (widths : List ℕ) → AreOf names scope widths → IsSizedStmt names targets scope t → ⊥
+not_sized names targets t name e flat wide a means other scope widths are sized =
+    let s = sized_of names targets scope t name e a sized in
+    let f : Some wide ≡ Some s.1.0 = sym (means.tree_width scope widths are) ∙ s.1.2 in
+    let same : wide ≡ s.1.0 = cc in
+    other (s.1.1 ∙ ap (λ (n : ℕ). Some n) (sym same))
+
+pub no_flat : (names : Meanings) (targets : List ℕ → Option ℕ) (t : StmtTree) (name : List ℕ) (e : Tree) → Assigns t name e → HasNoFlat names e →
+    (scope : Widths) (widths : List ℕ) → AreOf names scope widths → IsSizedStmt names targets scope t → ⊥
+no_flat names targets t name e a none scope widths are sized =
+    let s = sized_of names targets scope t name e a sized in none scope widths are s.0 s.1.0 s.1.2
 
 -- the value that is resolved is the next one
-pub next_found : {E : Type 0} (r : Result Logic E) (scope : Scope) (ts : List StmtTree) (t : StmtTree) (target name : List ℕ) (e : Tree) →
-    IfOk r (λ logic. Means scope e logic) → IsIn t ts → Assigns t target e → target ≡ name → IfOk r (λ logic. IsNextOf scope ts name logic)
-next_found (Ok logic) scope ts t target name e means is assigns same =
-    record { statement = t; value = e; there = is; assigns = subst (λ (n : List ℕ). Assigns t n e) same assigns; means = means }
-next_found (Err fault) scope ts t target name e means is assigns same = tt
+pub next_is : (names : Meanings) (ts : List StmtTree) (t : StmtTree) (target name : List ℕ) (e : Tree) (flat : Flat) (wide : ℕ) →
+    IsFlatOf names e flat wide → IsIn t ts → Assigns t target e → target ≡ name → IsNextOf names ts name flat
+next_is names ts t target name e flat wide means is assigns same =
+    record { statement = t; value = e; wide = wide; there = is; assigns = subst (λ (n : List ℕ). Assigns t n e) same assigns; means = means }
 
 -- a statement in a body is a tree in its trees, and has what all have
 pub stmt_in : (body : List Stmt) (i : ℕ) (stmt : Stmt) → i < length body → stmt ≡ get_or body i stmt → IsIn (stmt_tree stmt) (map stmt_tree body)

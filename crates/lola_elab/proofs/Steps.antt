@@ -1,6 +1,7 @@
 -- One step of a loop over a list: the items behind an index are one item and the items behind it.
-use Rattle.std.proofs.Common.{◌≡◌, ℕ, zero, suc, ◌+◌, ◌<◌, List, [], ◌∷◌, length, get_or, drop, refl, sym, ◌∙◌, ap, subst, inl, inr}
+use Rattle.std.proofs.Common.{◌≡◌, ◌↔◌, ℕ, zero, suc, ◌+◌, ◌<◌, List, [], ◌∷◌, length, get_or, drop, refl, sym, ◌∙◌, ap, subst, inl, inr}
 use Rattle.std.proofs.lemmas.List.{drop_more}
+use Rattle.std.specs.List.{AllByRecursion}
 use Rattle.lola_tree.specs.Cycle.{IsIn}
 
 pub drop_item : {X : Type 0} (xs : List X) (i : ℕ) (x : X) → i < length xs → x ≡ get_or xs i x → drop i xs ≡ x ∷ drop (i + 1) xs
@@ -14,3 +15,12 @@ in_drop (suc i) x (y ∷ xs) is = inr (in_drop i x xs is)
 -- the item at an index is among the items
 pub item_in : {X : Type 0} (xs : List X) (i : ℕ) (x : X) → i < length xs → x ≡ get_or xs i x → IsIn x xs
 item_in {X = X} xs i x within is = in_drop i x xs (subst (λ (ys : List X). IsIn x ys) (sym (drop_item xs i x within is)) (inl refl))
+
+-- a fact of all items behind an index is one of the item there and of those behind it
+pub all_step : {X Q : Type 0} (P : X → Type 0) (xs : List X) (i : ℕ) (x : X) → i < length xs → x ≡ get_or xs i x → P x →
+    (AllByRecursion P (drop i xs) ↔ Q) → (AllByRecursion P (drop (i + 1) xs) ↔ Q)
+all_step {X = X} P xs i x within is holds so =
+    let e = drop_item xs i x within is in (
+      λ all. so.0 (subst (λ (l : List X). AllByRecursion P l) (sym e) (holds, all)),
+      λ q. (subst (λ (l : List X). AllByRecursion P l) e (so.1 q)).1,
+    )

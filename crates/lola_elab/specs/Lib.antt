@@ -1,9 +1,15 @@
 pub mod Assigned
+pub mod Built
 pub mod Declares
 pub mod Elaborated
+pub mod Evaluated
+pub mod Flat
 pub mod Leaves
 pub mod Logic
+pub mod Meanings
 pub mod Modules
 pub mod Resolved
 pub mod Scope
+pub mod Signals
 pub mod Small
+pub mod Tables

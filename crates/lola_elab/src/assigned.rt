@@ -1,20 +1,25 @@
-ghost use Rattle.std.specs.Prelude.{◌≡◌, ◌↔◌, ℕ, Bool, List, map, cond, false, true, bytes_eq, string_bytes, IfOk, OnOk, IsTrue, MatchOption};
+ghost use Rattle.std.specs.Prelude.{◌≡◌, ◌↔◌, ℕ, Bool, List, map, cond, false, true, bytes_eq, string_bytes, IfOk, OnOk, IsTrue, MatchOption, Option};
 ghost use Rattle.std.specs.List.{AllByRecursion};
 ghost use Rattle.std.specs.BTreeSet.{contains_text};
+ghost use Rattle.std.specs.BTreeMap.{get_by_text};
+ghost use Rattle.lola_tree.specs.Width.{Scope as Widths};
 ghost use Rattle.lola_tree.specs.Tree.{tree, stmt_tree, module_tree};
 ghost use Rattle.lola_tree.specs.Cycle.{IsIn};
 ghost use Rattle.lola_tree.specs.Signals.{is_among};
 ghost use Rattle.lola_elab.specs.Small.{target_of};
-ghost use Rattle.lola_elab.specs.Assigned.{target_names, Assigns, IsWhole, AssignsOnce, IsSmallValue, IsNextOf, AreNexts, IsWellAssigned, HasNexts};
+ghost use Rattle.lola_elab.specs.Assigned.{target_names, Assigns, IsWhole, AssignsOnce, IsSizedStmt, AreSized, IsNextOf, AreNexts, IsWellAssigned, HasNexts};
+ghost use Rattle.lola_elab.specs.Meanings.{AreVectors, AreOf};
 
 use crate::fault::ElabError;
-use crate::logic::Logic;
-use crate::scope::{Scope, resolve};
+use crate::flat::Flat;
+use crate::flatten::flat_of;
+use crate::meaning::Meaning;
 use crate::sets::{take, wanted_targets};
+use crate::vector::Vector;
 use lola_bits::Name;
 use lola_tree::{Expr, Local, Module, Port, Stmt};
 use std::alloc::{AllocError, Global};
-use std::collections::BTreeSet;
+use std::collections::{BTreeMap, BTreeSet};
 
 /// The target and the value of a whole assignment.
 fn assigned(stmt: &Stmt) -> Option<(&Name, &Expr)>
@@ -61,14 +66,26 @@ fn assigns_once(
     Ok(left.is_empty())
 }
 
-/// That a statement is a whole assignment of an expression over the names of a scope.
-fn check_value(alloc: Global, stmt: &Stmt, scope: &Scope) -> Result<(), ElabError>
-    ensures ok { OnOk result (IsSmallValue scope.now (stmt_tree stmt.now)) }
-    ensures none { result ≡ Err ElabError.NotBuilt → IsSmallValue scope.now (stmt_tree stmt.now) → ⊥ }
+/// That a statement is a whole assignment of an expression whose width is the target's.
+fn check_value(
+    alloc: Global,
+    stmt: &Stmt,
+    names: &BTreeMap<String, Meaning>,
+    targets: &BTreeMap<String, usize>,
+) -> Result<(), ElabError>
+    requires { AreVectors (get_by_text names.now) }
+    ensures ok { OnOk result ((scope : Widths) (widths : List ℕ) → AreOf (get_by_text names.now) scope widths → IsSizedStmt (get_by_text names.now) (get_by_text targets.now) scope (stmt_tree stmt.now)) }
+    ensures none { result ≡ Err ElabError.NotBuilt → (scope : Widths) (widths : List ℕ) → AreOf (get_by_text names.now) scope widths → IsSizedStmt (get_by_text names.now) (get_by_text targets.now) scope (stmt_tree stmt.now) → ⊥ }
 {
     match assigned(stmt) {
-        Some((_, value)) => match resolve(alloc, value, scope) {
-            Ok(_logic) => Ok(()),
+        Some((name, value)) => match flat_of(alloc, value, names) {
+            Ok(typed) => {
+                if targets.get(name.text()).copied() == Some(typed.width) {
+                    Ok(())
+                } else {
+                    Err(ElabError::NotBuilt)
+                }
+            }
             Err(fault) => Err(fault),
         },
         None => Err(ElabError::NotBuilt),
@@ -76,12 +93,18 @@ fn check_value(alloc: Global, stmt: &Stmt, scope: &Scope) -> Result<(), ElabErro
 }
 
 /// That all statements are such assignments.
-fn check_values(alloc: Global, body: &[Stmt], scope: &Scope) -> Result<(), ElabError>
-    ensures ok { OnOk result (AllByRecursion (IsSmallValue scope.now) (map stmt_tree body.now)) }
-    ensures none { result ≡ Err ElabError.NotBuilt → AllByRecursion (IsSmallValue scope.now) (map stmt_tree body.now) → ⊥ }
+fn check_values(
+    alloc: Global,
+    body: &[Stmt],
+    names: &BTreeMap<String, Meaning>,
+    targets: &BTreeMap<String, usize>,
+) -> Result<(), ElabError>
+    requires { AreVectors (get_by_text names.now) }
+    ensures ok { OnOk result ((scope : Widths) (widths : List ℕ) → AreOf (get_by_text names.now) scope widths → AreSized (get_by_text names.now) (get_by_text targets.now) scope (map stmt_tree body.now)) }
+    ensures none { result ≡ Err ElabError.NotBuilt → (scope : Widths) (widths : List ℕ) → AreOf (get_by_text names.now) scope widths → AreSized (get_by_text names.now) (get_by_text targets.now) scope (map stmt_tree body.now) → ⊥ }
 {
     for stmt in body {
-        match check_value(alloc, stmt, scope) {
+        match check_value(alloc, stmt, names, targets) {
             Ok(()) => {}
             Err(fault) => return Err(fault),
         }
@@ -89,17 +112,26 @@ fn check_values(alloc: Global, body: &[Stmt], scope: &Scope) -> Result<(), ElabE
     Ok(())
 }
 
-/// What the first assignment to a name says, over the leaves of a scope. NotBuilt where none assigns
-/// it, or a statement on the way is no such assignment.
-fn next_of(alloc: Global, name: &str, body: &[Stmt], scope: &Scope) -> Result<Logic, ElabError>
-    ensures ok { IfOk result (λ logic. IsNextOf scope.now (map stmt_tree body.now) name.now logic) }
-    ensures none { result ≡ Err ElabError.NotBuilt → AllByRecursion (IsSmallValue scope.now) (map stmt_tree body.now) → IsIn name.now (map target_of (map stmt_tree body.now)) → ⊥ }
+/// What the first assignment to a name says, over the leaves. NotBuilt where none assigns it, or a
+/// statement on the way is no such assignment.
+fn next_of(
+    alloc: Global,
+    name: &str,
+    body: &[Stmt],
+    names: &BTreeMap<String, Meaning>,
+) -> Result<Flat, ElabError>
+    requires { AreVectors (get_by_text names.now) }
+    ensures ok { IfOk result (λ flat. IsNextOf (get_by_text names.now) (map stmt_tree body.now) name.now flat) }
+    ensures none { result ≡ Err ElabError.NotBuilt → (targets : List ℕ → Option ℕ) (scope : Widths) (widths : List ℕ) → AreOf (get_by_text names.now) scope widths → AreSized (get_by_text names.now) targets scope (map stmt_tree body.now) → IsIn name.now (map target_of (map stmt_tree body.now)) → ⊥ }
 {
     for stmt in body {
         match assigned(stmt) {
             Some((target, value)) => {
                 if target.text() == name {
-                    return resolve(alloc, value, scope);
+                    return match flat_of(alloc, value, names) {
+                        Ok(typed) => Ok(typed.flat),
+                        Err(fault) => Err(fault),
+                    };
                 }
             }
             None => return Err(ElabError::NotBuilt),
@@ -111,16 +143,17 @@ fn next_of(alloc: Global, name: &str, body: &[Stmt], scope: &Scope) -> Result<Lo
 /// What the first assignments to several names say, in the order of the names.
 fn nexts_in(
     alloc: Global,
-    names: &[String],
+    registers: &[Vector],
     body: &[Stmt],
-    scope: &Scope,
-) -> Result<Vec<Logic>, ElabError>
-    ensures ok { IfOk result (λ nexts. AreNexts scope.now (map stmt_tree body.now) (map string_bytes names.now) nexts.items) }
-    ensures none { result ≡ Err ElabError.NotBuilt → AllByRecursion (IsSmallValue scope.now) (map stmt_tree body.now) → AllByRecursion (λ name. IsIn name (map target_of (map stmt_tree body.now))) (map string_bytes names.now) → ⊥ }
+    names: &BTreeMap<String, Meaning>,
+) -> Result<Vec<Flat>, ElabError>
+    requires { AreVectors (get_by_text names.now) }
+    ensures ok { IfOk result (λ nexts. AreNexts (get_by_text names.now) (map stmt_tree body.now) (map (λ (v : Vector). string_bytes v.name) registers.now) nexts.items) }
+    ensures none { result ≡ Err ElabError.NotBuilt → (targets : List ℕ → Option ℕ) (scope : Widths) (widths : List ℕ) → AreOf (get_by_text names.now) scope widths → AreSized (get_by_text names.now) targets scope (map stmt_tree body.now) → AllByRecursion (λ name. IsIn name (map target_of (map stmt_tree body.now))) (map (λ (v : Vector). string_bytes v.name) registers.now) → ⊥ }
 {
     let mut nexts = Vec::new(alloc);
-    for name in names {
-        match next_of(alloc, name.as_str(), body, scope) {
+    for register in registers {
+        match next_of(alloc, register.name.as_str(), body, names) {
             Ok(next) => nexts.push(next)?,
             Err(fault) => return Err(fault),
         }
@@ -129,24 +162,26 @@ fn nexts_in(
 }
 
 /// The value of each register after the clock edge. NotBuilt where a statement is no whole assignment
-/// of an expression in the scope, or the OUT ports and registers aren't assigned once each, or
-/// something else is.
+/// of an expression that has its target's width, or the OUT ports and registers aren't assigned once
+/// each, or something else is.
 pub fn nexts_of(
     alloc: Global,
     root: &Module,
-    registers: &[String],
-    scope: &Scope,
-) -> Result<Vec<Logic>, ElabError>
-    ensures ok { IfOk result (λ nexts. HasNexts (module_tree root.now) scope.now (map string_bytes registers.now) nexts.items) }
-    ensures none { result ≡ Err ElabError.NotBuilt → IsWellAssigned (module_tree root.now) scope.now (map string_bytes registers.now) → ⊥ }
+    registers: &[Vector],
+    names: &BTreeMap<String, Meaning>,
+    targets: &BTreeMap<String, usize>,
+) -> Result<Vec<Flat>, ElabError>
+    requires { AreVectors (get_by_text names.now) }
+    ensures ok { IfOk result (λ nexts. HasNexts (module_tree root.now) (get_by_text names.now) (get_by_text targets.now) (map (λ (v : Vector). string_bytes v.name) registers.now) nexts.items) }
+    ensures none { result ≡ Err ElabError.NotBuilt → (scope : Widths) (widths : List ℕ) → AreOf (get_by_text names.now) scope widths → IsWellAssigned (module_tree root.now) (get_by_text names.now) (get_by_text targets.now) scope (map (λ (v : Vector). string_bytes v.name) registers.now) → ⊥ }
 {
     let body = root.body.items();
-    match check_values(alloc, body, scope) {
+    match check_values(alloc, body, names, targets) {
         Ok(()) => {}
         Err(fault) => return Err(fault),
     }
     if !assigns_once(alloc, body, root.ports.items(), root.locals.items())? {
         return Err(ElabError::NotBuilt);
     }
-    nexts_in(alloc, registers, body, scope)
+    nexts_in(alloc, registers, body, names)
 }

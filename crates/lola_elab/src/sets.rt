@@ -2,10 +2,10 @@ ghost use Rattle.std.specs.Prelude.{◌≡◌, ◌↔◌, ℕ, List, ◌++◌, c
 ghost use Rattle.std.specs.BTreeSet.{contains_text};
 ghost use Rattle.lola_tree.specs.Signals.{is_among};
 ghost use Rattle.lola_elab.specs.Small.{AreDistinct};
-ghost use Rattle.lola_elab.specs.Declares.{port_names, local_names};
+ghost use Rattle.lola_elab.specs.Declares.{port_names, const_names, local_names};
 ghost use Rattle.lola_elab.specs.Assigned.{target_names};
 
-use lola_tree::{Local, Port, Way};
+use lola_tree::{Const, Local, Port, Way};
 use std::alloc::{AllocError, Global};
 use std::collections::BTreeSet;
 
@@ -27,12 +27,22 @@ pub fn take(names: &mut BTreeSet<String>, name: &str) -> bool
 }
 
 /// Whether no name is declared twice.
-pub fn are_distinct(alloc: Global, ports: &[Port], locals: &[Local]) -> Result<bool, AllocError>
-    ensures { IfOk result (λ distinct. IsTrue distinct ↔ AreDistinct (port_names ports.now ++ local_names locals.now)) }
+pub fn are_distinct(
+    alloc: Global,
+    ports: &[Port],
+    consts: &[Const],
+    locals: &[Local],
+) -> Result<bool, AllocError>
+    ensures { IfOk result (λ distinct. IsTrue distinct ↔ AreDistinct (port_names ports.now ++ (const_names consts.now ++ local_names locals.now))) }
 {
     let mut names = BTreeSet::new(alloc);
     for port in ports {
         if !add(alloc, &mut names, port.name.text())? {
+            return Ok(false);
+        }
+    }
+    for constant in consts {
+        if !add(alloc, &mut names, constant.name.text())? {
             return Ok(false);
         }
     }

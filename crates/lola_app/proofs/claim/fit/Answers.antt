@@ -1,7 +1,7 @@
 use Rattle.std.proofs.Common.{◌≡◌, [], ◌∷◌, refl, sym, ap, subst, ◌∙◌, map, length, string_bytes}
 use Rattle.tab_tree.specs.Table.{table_tree, class_tree, phase_tree, state_tree, set_tree}
 use Rattle.std.specs.List.{AllByRecursion}
-use Rattle.lola_elab.specs.Scope.{HasReading}
+use Rattle.lola_onebit.specs.Scope.{HasReading}
 use Rattle.lola_app.specs.declared.states.Shown.{Shown}
 use Rattle.lola_app.specs.Claiming.{face_of, AreEach}
 use Rattle.lola_app.specs.Classes.{IsPlainPhase, IsTaken}

@@ -1,6 +1,6 @@
 use Rattle.std.proofs.Common.{◌≡◌, ◌++◌, map, drop}
-use Rattle.lola_elab.specs.declared.logic.Logic.{Logic}
-use Rattle.lola_elab.specs.Logic.{logic_value}
+use Rattle.lola_onebit.specs.declared.logic.Logic.{Logic}
+use Rattle.lola_onebit.specs.Logic.{logic_value}
 use Rattle.lola_app.proofs.decide.push_values.Given as goal
 
 abbrev pub invariant-loop-logic : goal.invariant-loop-logic

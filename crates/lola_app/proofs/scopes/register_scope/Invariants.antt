@@ -1,5 +1,5 @@
 use Rattle.std.proofs.Common.{◌≡◌, ◌+◌, ◌++◌, drop, map, string_bytes}
-use Rattle.lola_elab.specs.Leaves.{leaves_from, shown}
+use Rattle.lola_onebit.specs.Leaves.{leaves_from, shown}
 use Rattle.lola_app.proofs.scopes.register_scope.Given as goal
 
 abbrev pub invariant-loop-place : goal.invariant-loop-place

@@ -1,13 +1,13 @@
-use Rattle.std.proofs.Common.{◌≡◌, ℕ, ◌≤◌, List, [], ◌++◌, length, map, drop, Global, Err, sym, ap, subst, append-nil}
+use Rattle.std.proofs.Common.{◌≡◌, ℕ, ◌≤◌, List, [], ◌++◌, length, map, drop, Err, sym, ap, subst, append-nil}
 use Rattle.std.specs.String.{string_bytes}
-use Rattle.std.specs.declared.string.String.{String}
 use Rattle.std.proofs.lemmas.List.{drop_all}
 use Rattle.lola_tree.specs.Tree.{StmtTree, stmt_tree}
 use Rattle.lola_tree.specs.Cycle.{IsIn}
 use Rattle.lola_elab.specs.declared.fault.ElabError.{ElabError}
 use Rattle.lola_elab.specs.declared.fault.ElabError.TheVariants.{NotBuilt}
-use Rattle.lola_elab.specs.declared.logic.Logic.{Logic}
-use Rattle.lola_elab.specs.declared.scope.Scope.{Scope}
+use Rattle.lola_elab.specs.declared.flat.Flat.{Flat}
+use Rattle.lola_elab.specs.declared.vector.Vector.{Vector}
+use Rattle.lola_elab.specs.Meanings.{Meanings}
 use Rattle.lola_elab.specs.Small.{target_of}
 use Rattle.lola_elab.specs.Assigned.{AreNexts}
 use Rattle.lola_elab.proofs.Lists.{of_all, to_map}
@@ -15,18 +15,19 @@ use Rattle.lola_elab.proofs.Steps.{item_in}
 use Rattle.lola_elab.proofs.assigned.nexts_in.Goals as goal
 
 pub returns-in-Err-clause-none : goal.returns-in-Err-clause-none
-returns-in-Err-clause-none c = λ was values among.
+returns-in-Err-clause-none c = λ was targets scope widths are values among.
     let fault : c.in-Err.fault ≡ NotBuilt = cc in
-    let there = of_all (λ (name : List ℕ). IsIn name (map target_of (map stmt_tree c.args.body.now))) (string_bytes c.name-item.result) (map string_bytes c.args.names.now) among
-    (to_map string_bytes c.name-item.result c.args.names.now (item_in _ _ _ c.loop-name-test.true c.name-item.is)) in
-    c.in-Err.ensures.none (ap (λ (e : ElabError). Err e) fault) values
+    let there = of_all (λ (name : List ℕ). IsIn name (map target_of (map stmt_tree c.args.body.now))) (string_bytes c.register-item.result.name) (map (λ (v : Vector). string_bytes v.name) c.args.registers.now) among
+    (to_map (λ (v : Vector). string_bytes v.name) c.register-item.result c.args.registers.now (item_in _ _ _ c.loop-register-test.true c.register-item.is)) in
+    c.in-Err.ensures.none (ap (λ (e : ElabError). Err e) fault) targets scope widths are values
     (subst (λ (name : List ℕ). IsIn name (map target_of (map stmt_tree c.args.body.now))) (sym c.as_str.ensures.value) there)
 
-at_end : (scope : Scope) (ts : List StmtTree) (names : List (String Global)) (i : ℕ) (logics : List Logic) → length names ≤ i →
-    ((more : List Logic) → AreNexts scope ts (map string_bytes (drop i names)) more → AreNexts scope ts (map string_bytes names) (logics ++ more)) → AreNexts scope ts (map string_bytes names) logics
-at_end scope ts names i logics end so =
-    subst (λ (l : List Logic). AreNexts scope ts (map string_bytes names) l) (append-nil logics)
-    (so [] (subst (λ (l : List (String Global)). AreNexts scope ts (map string_bytes l) []) (sym (drop_all i names end)) tt))
+at_end : (names : Meanings) (ts : List StmtTree) (registers : List Vector) (i : ℕ) (flats : List Flat) → length registers ≤ i →
+    ((more : List Flat) → AreNexts names ts (map (λ (v : Vector). string_bytes v.name) (drop i registers)) more → AreNexts names ts (map (λ (v : Vector). string_bytes v.name) registers) (flats ++ more)) →
+    AreNexts names ts (map (λ (v : Vector). string_bytes v.name) registers) flats
+at_end names ts registers i flats end so =
+    subst (λ (l : List Flat). AreNexts names ts (map (λ (v : Vector). string_bytes v.name) registers) l) (append-nil flats)
+    (so [] (subst (λ (l : List Vector). AreNexts names ts (map (λ (v : Vector). string_bytes v.name) l) []) (sym (drop_all i registers end)) tt))
 
 pub returns-clause-ok : goal.returns-clause-ok
-returns-clause-ok c = at_end _ _ _ _ _ c.loop-name-test.false c.loop-name.invariant
+returns-clause-ok c = at_end _ _ _ _ _ c.loop-register-test.false c.loop-register.invariant

@@ -1,0 +1,170 @@
+-- Values are below 2 to their widths.
+use Rattle.std.proofs.Common.{◌≡◌, ℕ, zero, suc, ◌+◌, ◌-◌, ◌*◌, ◌/◌, ◌%◌, ◌^◌, ◌<◌, ◌≤◌, Bool, true, false, cond, not, Option, Some, None, sym, ◌∙◌, ap, ap₂, subst, arith, inl, inr}
+use Rattle.std.specs.Prelude.{nat_eq, nat_lt, bit_and}
+use Rattle.std.proofs.lemmas.Bool.{cases_Bool}
+use Rattle.std.proofs.lemmas.Nat.{shr_below, and_le_l, pow_pos, pow-add, mul-add-lt}
+use Rattle.std.proofs.lemmas.Bool.Decides.{nat_tests}
+use Rattle.std.proofs.Math.Nat.{div-le_self, add_comm}
+use Rattle.lola_bits.specs.declared.op.Op.{Op}
+use Rattle.lola_bits.specs.declared.op.Op.TheVariants as op
+use Rattle.lola_bits.specs.Number.{bit_at, slice_of, joined, inverted, operate, moved_filled}
+use Rattle.lola_bits.specs.Number as bits
+use Rattle.lola_bits.specs.Vector.{FitsWidth}
+use Rattle.lola_bits.proofs.Numbers.{or_fits, xor_fits, filled_below, all_filled}
+use Rattle.lola_tree.specs.declared.named.Ref.{Ref}
+use Rattle.lola_tree.specs.Tree.{Tree, number, whole, bit, slice, index, concat, negation, binary, choice, Parts, no_part, one_part}
+use Rattle.lola_tree.specs.Width.{Scope as Widths, width, total_width, same_width, defined_width, bit_width, repeated_width, operator_width}
+use Rattle.lola_tree.specs.Value.{value, value_of_parts, or_zero, or_read, repeated}
+use Rattle.lola_elab.specs.Small.{IsBuilt, AreBuilt}
+use Rattle.lola_elab.proofs.Widths.{checked_is, number_in, same_is, defined_is, bit_is, slice_is, operator_parts, operator_narrow, repeated_is, joined_is}
+
+some_same : (x y : ℕ) → Some x ≡ Some y → x ≡ y
+some_same x y e = cc
+
+nothing : {T : Type 0} (y : ℕ) → None ≡ Some y → T
+nothing y e = absurd cc
+
+mod_below : (x w : ℕ) → x % 2 ^ w < 2 ^ w
+mod_below x w = let h = pow_pos w in omega arith
+
+bit_below : (b : Bool) → bits.number b < 2 ^ 1
+bit_below true = omega arith
+bit_below false = omega arith
+
+top_times : (t p q : ℕ) → t < 2 → p < q → t * p < q
+top_times zero p q low less = omega arith
+top_times (suc zero) p q low less = omega arith
+top_times (suc (suc t)) p q low less = absurd (omega arith)
+
+filled_fits : (x w n : ℕ) → FitsWidth w x → moved_filled w x n < 2 ^ w
+filled_fits x w n fits = elim (cases_Bool (nat_lt w n)) [
+  | inl far ↦
+      let whole : 1 + (w - 1) ≡ w = let p : 1 ≤ w = fits.positive in omega arith in
+      let top : x / 2 ^ (w - 1) < 2 ^ 1 = shr_below x 1 (w - 1) (subst (λ (k : ℕ). x < 2 ^ k) (sym whole) fits.below) in
+      let less : 2 ^ w - 1 < 2 ^ w = let h = pow_pos w in omega arith in
+      subst (λ (y : ℕ). y < 2 ^ w) (sym (all_filled x w n fits (far_from w n far))) (top_times (x / 2 ^ (w - 1)) (2 ^ w - 1) (2 ^ w) (omega arith) less)
+  | inr near ↦ filled_below x w n fits (near_to w n near)
+]
+  where
+    far_from : (w n : ℕ) → nat_lt w n ≡ true → w ≤ n
+    far_from w n e = grind (arith, nat_tests)
+
+    near_to : (w n : ℕ) → nat_lt w n ≡ false → n ≤ w
+    near_to w n e = grind (arith, nat_tests)
+
+-- what an operator makes of numbers that fit, in its width
+kept : (w u : ℕ) (x : ℕ) → Some w ≡ Some u → x < 2 ^ w → x < 2 ^ u
+kept w u x e below = subst (λ (k : ℕ). x < 2 ^ k) (some_same w u e) below
+
+one_bit : (a : Option ℕ) (u : ℕ) (b : Bool) → defined_width (Some 1) a ≡ Some u → bits.number b < 2 ^ u
+one_bit a u b e = kept 1 u (bits.number b) (defined_is (Some 1) a u e).0 (bit_below b)
+
+operate_below : (o : Op) (w v u x y : ℕ) → operator_width o (Some w) (Some v) ≡ Some u → FitsWidth w x → FitsWidth v y → operate o w x y < 2 ^ u
+operate_below op.Not w v u x y e fx fy = nothing u e
+operate_below op.Mux w v u x y e fx fy = nothing u e
+operate_below op.And w v u x y e fx fy = let h = and_le_l x y in let b : x < 2 ^ w = fx.below in kept w u (bit_and x y) (same_is (Some w) (Some v) u e).0 (omega arith)
+operate_below op.Or w v u x y e fx fy =
+    let s = same_is (Some w) (Some v) u e in
+    kept w u (operate op.Or w x y) s.0 (or_fits w v x y fx fy (some_same v w (s.1 ∙ sym s.0))).below
+operate_below op.Xor w v u x y e fx fy =
+    let s = same_is (Some w) (Some v) u e in
+    kept w u (operate op.Xor w x y) s.0 (xor_fits w v x y fx fy (some_same v w (s.1 ∙ sym s.0))).below
+operate_below op.Add w v u x y e fx fy = kept w u (operate op.Add w x y) (same_is (Some w) (Some v) u e).0 (mod_below (x + y) w)
+operate_below op.Sub w v u x y e fx fy = kept w u (operate op.Sub w x y) (same_is (Some w) (Some v) u e).0 (mod_below (2 ^ w + x - y) w)
+operate_below op.Eq w v u x y e fx fy = one_bit (same_width (Some w) (Some v)) u (nat_eq x y) e
+operate_below op.Ne w v u x y e fx fy = one_bit (same_width (Some w) (Some v)) u (not (nat_eq x y)) e
+operate_below op.Lt w v u x y e fx fy = one_bit (same_width (Some w) (Some v)) u (nat_lt x y) e
+operate_below op.Le w v u x y e fx fy = one_bit (same_width (Some w) (Some v)) u (not (nat_lt y x)) e
+operate_below op.Gt w v u x y e fx fy = one_bit (same_width (Some w) (Some v)) u (nat_lt y x) e
+operate_below op.Ge w v u x y e fx fy = one_bit (same_width (Some w) (Some v)) u (not (nat_lt x y)) e
+operate_below op.Shl w v u x y e fx fy = kept w u (operate op.Shl w x y) e (mod_below (x * 2 ^ y) w)
+operate_below op.Shr w v u x y e fx fy = let h = div-le_self x (2 ^ y) in let b : x < 2 ^ w = fx.below in kept w u (operate op.Shr w x y) e (omega arith)
+operate_below op.Asr w v u x y e fx fy = kept w u (operate op.Asr w x y) e (filled_fits x w y fx)
+operate_below op.Ror w v u x y e fx fy = kept w u (operate op.Ror w x y) e (mod_below (x / 2 ^ (y % w) + x * 2 ^ (w - y % w)) w)
+
+join_below : (x v y w : ℕ) → x < 2 ^ v → y < 2 ^ w → joined x w y < 2 ^ (v + w)
+join_below x v y w below low = subst (λ (k : ℕ). joined x w y < 2 ^ k) (add_comm w v) (rw (pow-add 2 w v) (mul-add-lt x (2 ^ w) y (2 ^ v) below low))
+
+repeat_below : (n w x : ℕ) → x < 2 ^ w → repeated n w x < 2 ^ (n * w)
+repeat_below zero w x below = let z : 0 * w ≡ 0 = omega arith in subst (λ (k : ℕ). 0 < 2 ^ k) (sym z) (omega arith)
+repeat_below (suc n) w x below =
+    let z : n * w + w ≡ suc n * w = omega arith in
+    subst (λ (k : ℕ). repeated (suc n) w x < 2 ^ k) z (join_below (repeated n w x) (n * w) x w (repeat_below n w x below) below)
+
+place_one : (place width : Option ℕ) (w : ℕ) → bit_width place width ≡ Some w → w ≡ 1
+place_one None width w e = nothing w e
+place_one (Some n) None w e = nothing w e
+place_one (Some n) (Some v) w e = (bit_is (Some n) v w e).3
+
+mod_two : (x : ℕ) → x % 2 < 2 ^ 1
+mod_two x = omega arith
+
+chosen_fits : (b : Bool) (x y w : ℕ) → FitsWidth w x → FitsWidth w y → FitsWidth w (cond b x y)
+chosen_fits true x y w a b = a
+chosen_fits false x y w a b = b
+
+-- where the values of names fit, those of expressions do
+mutual
+  pub value_fits : (P : Ref → Type 0) (scope : Widths) (read : Ref → ℕ) → ((r : Ref) → P r → (w : ℕ) → scope.width r ≡ Some w → FitsWidth w (or_read (scope.number r) (read r))) →
+      (e : Tree) → IsBuilt P e → (w : ℕ) → width scope e ≡ Some w → FitsWidth w (value scope e read)
+  value_fits P scope read fit (number n written at) is w e = (number_in n written w e).1
+  value_fits P scope read fit (whole of) is w e = fit of is w e
+  value_fits P scope read fit (bit of place at) is w e =
+      let x : ℕ = or_read (scope.number of) (read of) in
+      let one = place_one (scope.count place) (scope.width of) w e in
+      let low : bit_at x (or_zero (scope.count place)) < 2 ^ 1 = mod_two (x / 2 ^ or_zero (scope.count place)) in
+      record { positive = omega (arith, one); at_most = omega (arith, one); below = subst (λ (k : ℕ). bit_at x (or_zero (scope.count place)) < 2 ^ k) (sym one) low }
+  value_fits P scope read fit (slice of high low at) is w e =
+      let s = slice_is (scope.count high) (scope.count low) (scope.width of) w e in
+      let x : ℕ = or_read (scope.number of) (read of) in
+      let wide = fit of is s.2 s.5 in
+      let most : s.2 ≤ 128 = wide.at_most in
+      let within : s.0 < s.2 = s.6 in
+      let size : w ≡ s.0 - s.1 + 1 = s.8 in
+      let made : slice_of x s.0 s.1 < 2 ^ w = subst (λ (k : ℕ). slice_of x s.0 s.1 < 2 ^ k) (sym size) (mod_below (x / 2 ^ s.1) (s.0 - s.1 + 1)) in
+      record {
+        positive = omega arith;
+        at_most = omega arith;
+        below = subst (λ (n : ℕ). n < 2 ^ w) (ap₂ (λ (a b : Option ℕ). slice_of x (or_zero a) (or_zero b)) (sym s.3) (sym s.4)) made;
+      }
+  value_fits P scope read fit (index of place at) is w e = absurd is
+  value_fits P scope read fit (concat parts at) is w e =
+      let c = checked_is (total_width scope parts) w e in
+      record { positive = c.1; at_most = c.2; below = parts_fit P scope read fit parts is w c.0 }
+  value_fits P scope read fit (negation e at) is w f =
+      let h = value_fits P scope read fit e is w f in
+      let p = pow_pos w in
+      let less : inverted w (value scope e read) < 2 ^ w = omega arith in
+      record { positive = h.positive; at_most = h.at_most; below = subst (λ (o : Option ℕ). inverted (or_zero o) (value scope e read) < 2 ^ w) (sym f) less }
+  value_fits P scope read fit (binary o a b at) is w e =
+      let p = operator_parts o (width scope a) (width scope b) w e in
+      let fa = value_fits P scope read fit a is.0 p.0 p.2 in
+      let fb = value_fits P scope read fit b is.1 p.1 p.3 in
+      let makes : operator_width o (Some p.0) (Some p.1) ≡ Some w = sym (ap₂ (operator_width o) p.2 p.3) ∙ e in
+      let narrow = operator_narrow o p.0 p.1 w makes fa.positive fa.at_most in
+      record {
+        positive = narrow.0;
+        at_most = narrow.1;
+        below = subst (λ (k : Option ℕ). operate o (or_zero k) (value scope a read) (value scope b read) < 2 ^ w) (sym p.2)
+            (operate_below o p.0 p.1 w (value scope a read) (value scope b read) makes fa fb);
+      }
+  value_fits P scope read fit (choice test first second at) is w e =
+      let d = defined_is (same_width (width scope first) (width scope second)) (same_width (Some 1) (width scope test)) w e in
+      let s = same_is (width scope first) (width scope second) w d.0 in
+      chosen_fits (nat_eq (value scope test read) 1) (value scope first read) (value scope second read) w
+      (value_fits P scope read fit first is.1 w s.0) (value_fits P scope read fit second is.2 w s.1)
+
+  parts_fit : (P : Ref → Type 0) (scope : Widths) (read : Ref → ℕ) → ((r : Ref) → P r → (w : ℕ) → scope.width r ≡ Some w → FitsWidth w (or_read (scope.number r) (read r))) →
+      (ps : Parts) → AreBuilt P ps → (w : ℕ) → total_width scope ps ≡ Some w → value_of_parts scope ps read < 2 ^ w
+  parts_fit P scope read fit no_part is w e = kept 0 w 0 e (omega arith)
+  parts_fit P scope read fit (one_part e times behind) is w f =
+      let j = joined_is (repeated_width (width scope e) (scope.count times)) (total_width scope behind) w f in
+      let r = repeated_is (width scope e) (scope.count times) j.0 j.2 in
+      let part = value_fits P scope read fit e is.0 r.0 r.2 in
+      let more = parts_fit P scope read fit behind is.1 j.1 j.3 in
+      let size : r.1 * r.0 + j.1 ≡ w = ap (λ (k : ℕ). k + j.1) (sym r.5) ∙ sym j.4 in
+      let all = join_below (repeated r.1 r.0 (value scope e read)) (r.1 * r.0) (value_of_parts scope behind read) j.1 (repeat_below r.1 r.0 (value scope e read) part.below) more in
+      let sized = subst (λ (k : ℕ). joined (repeated r.1 r.0 (value scope e read)) j.1 (value_of_parts scope behind read) < 2 ^ k) size all in
+      subst (λ (n : ℕ). n < 2 ^ w)
+      (ap₂ (λ (a b : Option ℕ). joined (repeated (or_zero a) (or_zero b) (value scope e read)) j.1 (value_of_parts scope behind read)) (sym r.3) (sym r.2)
+      ∙ ap (λ (o : Option ℕ). joined (repeated (or_zero (scope.count times)) (or_zero (width scope e)) (value scope e read)) (or_zero o) (value_of_parts scope behind read)) (sym j.3)) sized

@@ -1,0 +1,13 @@
+pub mod BitWidths
+pub mod Bits
+pub mod Entries
+pub mod LeafNumbers
+pub mod LeafScope
+pub mod Lists
+pub mod Names
+pub mod NewNames
+pub mod OneCycle
+pub mod Statements
+pub mod Steps
+pub mod WellDeclared
+pub mod Whole

@@ -1,0 +1,28 @@
+ghost use Rattle.std.specs.Prelude.{◌≡◌};
+ghost use Rattle.lola_onebit.specs.declared.fault.ElabError.TheVariants.{Memory};
+
+use std::alloc::{AllocError, AllocFailed};
+
+/// Why a source gives no one-bit design: it is outside the forms that are built, or memory is
+/// wanting.
+#[derive(Clone, Copy, Debug, PartialEq, Eq)]
+pub enum ElabError {
+    NotBuilt,
+    Memory,
+}
+
+impl From<AllocError> for ElabError {
+    ghost from_gives = { λ _ fault. fault ≡ Memory };
+
+    fn from(_error: AllocError) -> ElabError {
+        ElabError::Memory
+    }
+}
+
+impl<T: Drop> From<AllocFailed<T>> for ElabError {
+    ghost from_gives = { λ _ fault. fault ≡ Memory };
+
+    fn from(_error: AllocFailed<T>) -> ElabError {
+        ElabError::Memory
+    }
+}
