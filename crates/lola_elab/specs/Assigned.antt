@@ -1,9 +1,12 @@
 -- What the statements of a module assign.
 use Rattle.std.specs.Prelude.{◌≡◌, ℕ, Bool, true, List, [], ◌∷◌, ◌++◌, map, filter, Option, Some, None}
+use Rattle.std.specs.Option.{IsSome, option_map}
+use Rattle.std.specs.Borrow.{Bor}
 use Rattle.std.specs.List.{AllByRecursion}
 use Rattle.lola_tree.specs.declared.module.Port.{Port}
 use Rattle.lola_tree.specs.declared.module.Local.{Local}
-use Rattle.lola_tree.specs.Tree.{Tree, StmtTree, assignment, call, pad, ModuleTree}
+use Rattle.lola_tree.specs.declared.expr.Expr.{Expr}
+use Rattle.lola_tree.specs.Tree.{Tree, tree, StmtTree, assignment, call, pad, ModuleTree}
 use Rattle.lola_tree.specs.Width.{Scope as Widths, width}
 use Rattle.lola_tree.specs.Cycle.{IsIn}
 use Rattle.lola_tree.specs.Signals.{is_among}
@@ -47,6 +50,22 @@ IsSizedStmt names targets scope (pad io inner drive release at) = ⊥
 -- where the names are those of a scope, all statements are such
 abbrev pub AreSized : Meanings → (List ℕ → Option ℕ) → Widths → List StmtTree → Type 0
 AreSized names targets scope ts = AllByRecursion (IsSizedStmt names targets scope) ts
+
+-- a value is what one of the statements assigns to a name
+pub record IsValueOf (ts : List StmtTree) (name : List ℕ) (e : Tree) : Type 0 where
+  pub statement : StmtTree
+  pub there : IsIn statement ts
+  pub assigns : Assigns statement name e
+
+-- what the statements assign, by name: each value is what one of them assigns to its name, and each name to
+-- which one assigns a value has one
+pub record AreValuesOf (ts : List StmtTree) (values : List ℕ → Option Tree) : Type 0 where
+  pub assigned : (name : List ℕ) (e : Tree) → values name ≡ Some e → IsValueOf ts name e
+  pub each : (name : List ℕ) (e : Tree) → IsValueOf ts name e → IsSome (values name)
+
+-- the trees of expressions that are known by name
+abbrev pub trees_of : (List ℕ → Option (Bor Expr)) → List ℕ → Option Tree
+trees_of values name = option_map (λ (e : Bor Expr). tree e.now) (values name)
 
 -- an expression over leaves is what one of the statements assigns to a name
 pub record IsNextOf (names : Meanings) (ts : List StmtTree) (name : List ℕ) (flat : Flat) : Type 0 where

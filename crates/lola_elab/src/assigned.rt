@@ -1,13 +1,13 @@
-ghost use Rattle.std.specs.Prelude.{◌≡◌, ◌↔◌, ℕ, Bool, List, map, cond, false, true, bytes_eq, string_bytes, IfOk, OnOk, IsTrue, MatchOption, Option};
+ghost use Rattle.std.specs.Prelude.{◌≡◌, ◌↔◌, ℕ, Bool, List, map, cond, false, true, bytes_eq, string_bytes, IfOk, OnOk, IsTrue, MatchOption, Option, Err};
 ghost use Rattle.std.specs.List.{AllByRecursion};
 ghost use Rattle.std.specs.BTreeSet.{contains_text};
 ghost use Rattle.std.specs.BTreeMap.{get_by_text};
 ghost use Rattle.lola_tree.specs.Width.{Scope as Widths};
-ghost use Rattle.lola_tree.specs.Tree.{tree, stmt_tree, module_tree};
+ghost use Rattle.lola_tree.specs.Tree.{tree, StmtTree, stmt_tree, module_tree};
 ghost use Rattle.lola_tree.specs.Cycle.{IsIn};
 ghost use Rattle.lola_tree.specs.Signals.{is_among};
 ghost use Rattle.lola_elab.specs.Small.{target_of};
-ghost use Rattle.lola_elab.specs.Assigned.{target_names, Assigns, IsWhole, AssignsOnce, IsSizedStmt, AreSized, IsNextOf, AreNexts, IsWellAssigned, HasNexts};
+ghost use Rattle.lola_elab.specs.Assigned.{target_names, Assigns, IsWhole, AssignsOnce, IsSizedStmt, AreSized, AreValuesOf, trees_of, IsNextOf, AreNexts, IsWellAssigned, HasNexts};
 ghost use Rattle.lola_elab.specs.Meanings.{AreVectors, AreOf};
 
 use crate::fault::ElabError;
@@ -15,6 +15,7 @@ use crate::flat::Flat;
 use crate::flatten::flat_of;
 use crate::meaning::Meaning;
 use crate::sets::{take, wanted_targets};
+use crate::table::enter;
 use crate::vector::Vector;
 use lola_bits::Name;
 use lola_tree::{Expr, Local, Module, Port, Stmt};
@@ -112,35 +113,41 @@ fn check_values(
     Ok(())
 }
 
-/// What the first assignment to a name says, over the leaves. NotBuilt where none assigns it, or a
-/// statement on the way is no such assignment.
+/// What the statements assign, by the names of their targets.
+fn values_of(alloc: Global, body: &[Stmt]) -> Result<BTreeMap<String, &Expr>, AllocError>
+    ensures { IfOk result (λ values. AreValuesOf (map stmt_tree body.now) (trees_of (get_by_text values))) }
+{
+    let mut values = BTreeMap::new(alloc);
+    for stmt in body {
+        match assigned(stmt) {
+            Some((name, value)) => enter(alloc, &mut values, name.text(), value)?,
+            None => {}
+        }
+    }
+    Ok(values)
+}
+
+/// What a name is assigned, over the leaves. NotBuilt where it is assigned nothing.
 fn next_of(
     alloc: Global,
     name: &str,
-    body: &[Stmt],
+    values: &BTreeMap<String, &Expr>,
     names: &BTreeMap<String, Meaning>,
 ) -> Result<Flat, ElabError>
     requires { AreVectors (get_by_text names.now) }
-    ensures ok { IfOk result (λ flat. IsNextOf (get_by_text names.now) (map stmt_tree body.now) name.now flat) }
-    ensures none { result ≡ Err ElabError.NotBuilt → (targets : List ℕ → Option ℕ) (scope : Widths) (widths : List ℕ) → AreOf (get_by_text names.now) scope widths → AreSized (get_by_text names.now) targets scope (map stmt_tree body.now) → IsIn name.now (map target_of (map stmt_tree body.now)) → ⊥ }
+    ensures ok { IfOk result (λ flat. (ts : List StmtTree) → AreValuesOf ts (trees_of (get_by_text values.now)) → IsNextOf (get_by_text names.now) ts name.now flat) }
+    ensures none { result ≡ Err ElabError.NotBuilt → (ts : List StmtTree) → AreValuesOf ts (trees_of (get_by_text values.now)) → (targets : List ℕ → Option ℕ) (scope : Widths) (widths : List ℕ) → AreOf (get_by_text names.now) scope widths → AreSized (get_by_text names.now) targets scope ts → IsIn name.now (map target_of ts) → ⊥ }
 {
-    for stmt in body {
-        match assigned(stmt) {
-            Some((target, value)) => {
-                if target.text() == name {
-                    return match flat_of(alloc, value, names) {
-                        Ok(typed) => Ok(typed.flat),
-                        Err(fault) => Err(fault),
-                    };
-                }
-            }
-            None => return Err(ElabError::NotBuilt),
-        }
+    match values.get(name).copied() {
+        Some(value) => match flat_of(alloc, value, names) {
+            Ok(typed) => Ok(typed.flat),
+            Err(fault) => Err(fault),
+        },
+        None => Err(ElabError::NotBuilt),
     }
-    Err(ElabError::NotBuilt)
 }
 
-/// What the first assignments to several names say, in the order of the names.
+/// What several names are assigned, in the order of the names.
 fn nexts_in(
     alloc: Global,
     registers: &[Vector],
@@ -151,9 +158,10 @@ fn nexts_in(
     ensures ok { IfOk result (λ nexts. AreNexts (get_by_text names.now) (map stmt_tree body.now) (map (λ (v : Vector). string_bytes v.name) registers.now) nexts.items) }
     ensures none { result ≡ Err ElabError.NotBuilt → (targets : List ℕ → Option ℕ) (scope : Widths) (widths : List ℕ) → AreOf (get_by_text names.now) scope widths → AreSized (get_by_text names.now) targets scope (map stmt_tree body.now) → AllByRecursion (λ name. IsIn name (map target_of (map stmt_tree body.now))) (map (λ (v : Vector). string_bytes v.name) registers.now) → ⊥ }
 {
+    let values = values_of(alloc, body)?;
     let mut nexts = Vec::new(alloc);
     for register in registers {
-        match next_of(alloc, register.name.as_str(), body, names) {
+        match next_of(alloc, register.name.as_str(), &values, names) {
             Ok(next) => nexts.push(next)?,
             Err(fault) => return Err(fault),
         }

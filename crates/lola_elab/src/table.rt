@@ -14,7 +14,7 @@ use std::alloc::{AllocError, Global};
 use std::collections::BTreeMap;
 
 /// Lets a name stand for something.
-fn enter<T: Drop>(
+pub fn enter<T: Drop>(
     alloc: Global,
     names: &mut BTreeMap<String, T>,
     name: &str,

@@ -19,7 +19,7 @@ returns-in-Err-clause-none c = λ was targets scope widths are values among.
     let fault : c.in-Err.fault ≡ NotBuilt = cc in
     let there = of_all (λ (name : List ℕ). IsIn name (map target_of (map stmt_tree c.args.body.now))) (string_bytes c.register-item.result.name) (map (λ (v : Vector). string_bytes v.name) c.args.registers.now) among
     (to_map (λ (v : Vector). string_bytes v.name) c.register-item.result c.args.registers.now (item_in _ _ _ c.loop-register-test.true c.register-item.is)) in
-    c.in-Err.ensures.none (ap (λ (e : ElabError). Err e) fault) targets scope widths are values
+    c.in-Err.ensures.none (ap (λ (e : ElabError). Err e) fault) (map stmt_tree c.args.body.now) c.in_ok-values.ensures targets scope widths are values
     (subst (λ (name : List ℕ). IsIn name (map target_of (map stmt_tree c.args.body.now))) (sym c.as_str.ensures.value) there)
 
 at_end : (names : Meanings) (ts : List StmtTree) (registers : List Vector) (i : ℕ) (flats : List Flat) → length registers ≤ i →
