@@ -13,6 +13,12 @@ pub three_pieces : (old first second third one two three : List ℕ) → one ≡
 three_pieces old first second third one two three e f g =
     g ∙ ap (λ x. x ++ third) (f ∙ ap (λ x. x ++ second) e) ∙ simp append_assoc
 
+-- and four
+pub four_pieces : (old first second third fourth one two three four : List ℕ) → one ≡ old ++ first → two ≡ one ++ second → three ≡ two ++ third → four ≡ three ++ fourth →
+    four ≡ old ++ (first ++ (second ++ (third ++ fourth)))
+four_pieces old first second third fourth one two three four e f g h =
+    h ∙ ap (λ x. x ++ fourth) (g ∙ ap (λ x. x ++ third) (f ∙ ap (λ x. x ++ second) e)) ∙ simp append_assoc
+
 -- a longer front is a front and a front of what is left
 pub take-sum : (text : List ℕ) (m n : ℕ) → m ≤ length text → take (m + n) text ≡ take m text ++ take n (drop m text)
 take-sum text m n within =

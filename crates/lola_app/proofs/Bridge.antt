@@ -1,16 +1,14 @@
--- An obligation at a valuation, against its trial at the valuation's bits.
-use Rattle.std.proofs.Common.{◌≡◌, ℕ, zero, suc, ◌+◌, ◌-◌, ◌<◌, ◌≤◌, ◌^◌, Bool, true, false, not, cond, List, [], ◌∷◌, ◌++◌, length, map, take, drop, Some, refl, sym, ap, ap₂, ◌∙◌, subst, arith, inl, inr, length-append}
-use Rattle.std.specs.Prelude.{slice_get, slice_index_or, ◌&&◌, if◌then◌else◌, string_bytes, bytes_eq}
+-- An obligation at a valuation, against its trial at the valuation's numbers.
+use Rattle.std.proofs.Common.{◌≡◌, ℕ, zero, suc, ◌+◌, ◌<◌, ◌≤◌, ◌^◌, Bool, true, false, not, cond, List, [], ◌∷◌, ◌++◌, length, map, take, drop, Some, refl, sym, ap, ap₂, ◌∙◌, subst, arith, inl, inr, length-append}
+use Rattle.std.specs.Prelude.{slice_get, slice_index_or, ◌&&◌, nat_eq, if◌then◌else◌, string_bytes}
 use Rattle.std.proofs.lemmas.Option.{slice_get_within}
-use Rattle.lola_onebit.proofs.Lists.{from_filter}
-use Rattle.std.proofs.lemmas.List.{length-take-le, take-append-drop}
-use Rattle.std.proofs.Common.{length-drop}
+use Rattle.std.proofs.lemmas.List.{length-take-le}
 use Rattle.lola_tree.specs.Tree.{SourceTree}
 use Rattle.lola_tree.specs.Value.{Values}
 use Rattle.lola_tree.specs.Cycle.{IsIn, IsState, IsGiven, Cycle, Next}
 use Rattle.lola_tree.specs.Signals.{values_of, root_inputs, root_registers}
-use Rattle.lola_onebit.specs.Logic.{logic_value, bit_number, AreBits}
-use Rattle.lola_onebit.specs.Elaborated.{HasOneCycle}
+use Rattle.lola_elab.specs.Logic.{logic_value, bit_number, AreBits}
+use Rattle.lola_elab.specs.Elaborated.{vector_names, vector_widths, HasOneCycle}
 use Rattle.tab_tree.specs.declared.table.Active.{Active}
 use Rattle.tab_tree.specs.Table.{active_value, idle_value, StateTree, SetTree, ClassTree, TableTree}
 use Rattle.tab_tree.specs.Step.{fits, source_names, no_names, class_names, state_value, set_value, loaded_word, table_value}
@@ -21,22 +19,27 @@ use Rattle.lola_app.specs.declared.obligation.Goal.TheVariants as goal
 use Rattle.lola_app.specs.declared.obligation.Goal.{Goal as Tried}
 use Rattle.lola_app.specs.declared.obligation.Which.{Which}
 use Rattle.lola_app.specs.declared.obligation.Which.TheVariants as which
-use Rattle.lola_app.specs.Claiming.{face_of, AreLeaves, IsClaimedState, IsClaimedStart, IsClaimOf}
+use Rattle.lola_app.specs.declared.subject.Subject.{Subject}
+use Rattle.lola_app.specs.Claiming.{AreLeaves, IsClaimedState, IsClaimedStart, IsClaimOf}
 use Rattle.lola_app.specs.Headline.{shown, answer_of, IsActive, IsIdle}
+use Rattle.lola_app.specs.Naming.{IsAt}
 use Rattle.lola_app.specs.Obligations.{Goal, invariant, boundary, start, state, Obligation, cover, reset, ends, Valuation, IsValuation, ResetGoal, EndGoal, Premises, HoldsAt, IsViolatedAt, without, free_values}
-use Rattle.lola_app.specs.Trial.{same_bit, with_reset, next_registers, next_leaves, next_leaf, place_fits, reset_passes, end_passes, premises, passes, free_count}
+use Rattle.lola_app.specs.Small.{Interface}
+use Rattle.lola_app.specs.Trial.{same_bit, but_one, with_reset, seen, next_numbers, leaves_before, leaves_after, place_fits, end_passes, premises, reset_at, end_at, passes, tried_widths}
+use Rattle.lola_app.specs.Valuations.{AreWithin}
+use Rattle.lola_app.specs.Vectors.{bit_names, face_of, interface_in}
 use Rattle.lola_app.proofs.Behaves.{Behaves}
-use Rattle.lola_app.proofs.Leaves.{length_map, front_bits, both_bits, bits_long, put_in, take_out, behind_front, bits_in, are_bits, values_are_low, all_both, valued, valued_low, read_back}
+use Rattle.lola_app.proofs.Leaves.{length_map, front_bits, both_bits, bit_back, bit_low, seen_are, seen_append, within_both, within_long, halves, within_put, within_out, put_in, take_out}
 
--- a trial at bits decides the obligation at the valuation with these bits
-pub record Decides (S : SourceTree) (T : TableTree) (claim : Claim) (o : Obligation) (which : Which) : Type 0 where
-  pub holds : (w : Valuation) (bits : List Bool) → IsValuation S T o w → AreBits (free_values S T o w) bits → passes claim which bits ≡ true → HoldsAt S T o w
-  pub violated : (w : Valuation) (bits : List Bool) → IsValuation S T o w → AreBits (free_values S T o w) bits → passes claim which bits ≡ false → IsViolatedAt S T o w
+-- a trial at the free values of a valuation decides the obligation there
+pub record Decides (S : SourceTree) (T : TableTree) (subject : Subject) (o : Obligation) (which : Which) : Type 0 where
+  pub holds : (w : Valuation) → IsValuation S T o w → passes subject which (free_values S T o w) ≡ true → HoldsAt S T o w
+  pub violated : (w : Valuation) → IsValuation S T o w → passes subject which (free_values S T o w) ≡ false → IsViolatedAt S T o w
 
--- the bits of valuations: each valuation has some, and each list of bits is that of a valuation
-pub record Spans (S : SourceTree) (T : TableTree) (claim : Claim) (o : Obligation) (which : Which) : Type 0 where
-  pub bits : (w : Valuation) → IsValuation S T o w → (bits : List Bool) × (AreBits (free_values S T o w) bits) × (length bits ≡ free_count claim which)
-  pub valuation : (bits : List Bool) → length bits ≡ free_count claim which → (w : Valuation) × IsValuation S T o w × AreBits (free_values S T o w) bits
+-- the free values of valuations are the numbers within the widths
+pub record Spans (S : SourceTree) (T : TableTree) (subject : Subject) (o : Obligation) (which : Which) : Type 0 where
+  pub within : (w : Valuation) → IsValuation S T o w → AreWithin (tried_widths subject which) (free_values S T o w)
+  pub valuation : (ns : List ℕ) → AreWithin (tried_widths subject which) ns → (w : Valuation) × IsValuation S T o w × (free_values S T o w ≡ ns)
 
 -- a fact is decided by a bit
 pub record IsTold (bit : Bool) (P : Type 0) : Type 0 where
@@ -63,14 +66,42 @@ told_same m n x y e f = record {
   no = λ off same. (same_told x y).no off (sym e ∙ same ∙ f);
 }
 
--- one more bit
-one_longer : (place : ℕ) (bit : Bool) (bits : List Bool) → length (with_reset place bit bits) ≡ suc (length bits)
-one_longer zero bit bits = refl
-one_longer (suc place) bit [] = refl
-one_longer (suc place) bit (b ∷ bits) = ap suc (one_longer place bit bits)
+-- a design and a claim about it, which are those of a source and a table
+pub record Fitting (S : SourceTree) (T : TableTree) (subject : Subject) : Type 0 where
+  pub does : Behaves S subject.design
+  pub is : IsClaimOf T subject.claim
+  pub sees : interface_in subject.claim.face ≡ face_of subject.design
+  pub at : IsAt (vector_names subject.design.inputs.items) subject.reset T.reset.port
+  pub bit : slice_get (vector_widths subject.design.inputs.items) subject.reset ≡ Some 1
+  pub one : (s inp : Values) → IsState S s → IsGiven S inp → HasOneCycle S s inp
+  pub after : (s inp v s' : Values) → IsState S s → IsGiven S inp → Cycle S s inp v → Next S v s' → IsState S s'
 
--- the leaves at a valuation
-module _ (S : SourceTree) (T : TableTree) (claim : Claim) (does : Behaves S claim) (is : IsClaimOf T claim) where
+module _ (S : SourceTree) (T : TableTree) (subject : Subject) (fit : Fitting S T subject) where
+  abbrev pub claim : Claim
+  claim = subject.claim
+
+  abbrev pub is : IsClaimOf T subject.claim
+  is = fit.is
+
+  abbrev pub does : Behaves S subject.design
+  does = fit.does
+
+  abbrev pub I : List (List ℕ)
+  I = vector_names subject.design.inputs.items
+
+  abbrev pub R : List (List ℕ)
+  R = vector_names subject.design.registers.items
+
+  abbrev pub iw : List ℕ
+  iw = vector_widths subject.design.inputs.items
+
+  abbrev pub rw' : List ℕ
+  rw' = vector_widths subject.design.registers.items
+
+  -- the numbers of all vectors
+  abbrev pub all : Values → Values → List ℕ
+  all s inp = values_of inp I ++ values_of s R
+
   active_is : (inp : Values) → IsActive T inp → inp (T.reset.port ∷ []) ≡ bit_number claim.active
   active_is inp active = active ∙ value_bit T.reset ∙ ap bit_number (sym is.active)
     where
@@ -83,65 +114,67 @@ module _ (S : SourceTree) (T : TableTree) (claim : Claim) (does : Behaves S clai
       value_bit : (a : Active) → idle_value a ≡ bit_number (not a.value)
       value_bit a = elim a.value as (λ b. (if b then 0 else 1) ≡ bit_number (not b)) [ true ↦ refl | false ↦ refl ]
 
-  leaves_are : (w : Valuation) (bit : Bool) (bits : List Bool) → w.input (T.reset.port ∷ []) ≡ bit_number bit →
-      AreBits (values_of w.input (without T.reset.port (root_inputs S.modules)) ++ values_of w.state (root_registers S.modules)) bits →
-      AreLeaves (face_of claim.design) w.state w.input (with_reset claim.reset bit bits)
-  leaves_are w bit bits at free =
-      put_in w.input (face_of claim.design).inputs (values_of w.state (face_of claim.design).registers) T.reset.port claim.reset bit bits does.inputs_distinct is.reset at
-      (ap₂ (λ (xs ys : List (List ℕ)). values_of w.input (without T.reset.port xs) ++ values_of w.state ys) (sym does.inputs_are) (sym does.registers_are) ∙ free)
+  -- the free values of a cycle
+  abbrev pub free : Valuation → List ℕ
+  free w = values_of w.input (without T.reset.port (root_inputs S.modules)) ++ values_of w.state (root_registers S.modules)
 
-  inputs_long : (inp : Values) → length (values_of inp (face_of claim.design).inputs) ≡ length claim.design.inputs.items
-  inputs_long inp = length_map (λ (name : List ℕ). inp (name ∷ [])) (face_of claim.design).inputs ∙ length_map string_bytes claim.design.inputs.items
+  all_are : (w : Valuation) (value : ℕ) → w.input (T.reset.port ∷ []) ≡ value → all w.state w.input ≡ with_reset subject.reset value (free w)
+  all_are w value at =
+      put_in w.input I (values_of w.state R) T.reset.port subject.reset value (free w) does.inputs_distinct fit.at at
+      (ap₂ (λ (xs ys : List (List ℕ)). values_of w.input (without T.reset.port xs) ++ values_of w.state ys) (sym does.inputs_are) (sym does.registers_are))
 
-  next_are : (s inp v s' : Values) (leaves : List Bool) → AreLeaves (face_of claim.design) s inp leaves → Cycle S s inp v → Next S v s' →
-      AreLeaves (face_of claim.design) s' inp (next_leaves claim leaves)
-  next_are s inp v s' leaves are cycle next =
-      let front : AreBits (values_of inp (face_of claim.design).inputs) (take (length (values_of inp (face_of claim.design).inputs)) leaves) =
-      front_bits (values_of inp (face_of claim.design).inputs) (values_of s (face_of claim.design).registers) leaves are in
-      both_bits (values_of inp (face_of claim.design).inputs) (values_of s' (face_of claim.design).registers) (take (length claim.design.inputs.items) leaves) (next_registers claim leaves)
-      (subst (λ (n : ℕ). AreBits (values_of inp (face_of claim.design).inputs) (take n leaves)) (inputs_long inp) front)
-      (does.next s inp v s' leaves are cycle next)
+  -- what the table sees, before the clock edge and behind it
+  before_are : (s inp : Values) → IsState S s → IsGiven S inp → AreLeaves (interface_in claim.face) s inp (leaves_before subject (all s inp))
+  before_are s inp suits given =
+      let long : length (values_of inp I) ≡ length iw = within_long iw (values_of inp I) (does.given_within inp given) in
+      let apart : leaves_before subject (all s inp) ≡ seen iw (values_of inp I) ++ seen rw' (values_of s R) = seen_append iw rw' (values_of inp I) (values_of s R) long in
+      subst (λ (f : Interface). AreLeaves f s inp (leaves_before subject (all s inp))) (sym fit.sees)
+      (both_bits (values_of inp (bit_names subject.design.inputs.items)) (values_of s (bit_names subject.design.registers.items)) (seen iw (values_of inp I)) (seen rw' (values_of s R))
+      (seen_are inp subject.design.inputs.items (does.given_within inp given)) (seen_are s subject.design.registers.items (does.state_within s suits))
+      ∙ ap (map bit_number) (sym apart))
 
-  next_leaf_is : (s inp : Values) (leaves : List Bool) (leaf : ℕ) → AreLeaves (face_of claim.design) s inp leaves → length (face_of claim.design).inputs ≤ leaf →
-      slice_index_or (next_leaves claim leaves) leaf false ≡ next_leaf claim leaf leaves
-  next_leaf_is s inp leaves leaf are behind =
-      let n = length claim.design.inputs.items in
-      let long : length leaves ≡ length (values_of inp (face_of claim.design).inputs ++ values_of s (face_of claim.design).registers) =
-      bits_long (values_of inp (face_of claim.design).inputs ++ values_of s (face_of claim.design).registers) leaves are in
-      let parts : length (values_of inp (face_of claim.design).inputs ++ values_of s (face_of claim.design).registers) ≡ n + length (values_of s (face_of claim.design).registers) =
-      length-append (values_of inp (face_of claim.design).inputs) (values_of s (face_of claim.design).registers) ∙ ap (λ k. k + length (values_of s (face_of claim.design).registers)) (inputs_long inp) in
-      let taken : length (take n leaves) ≡ n = length-take-le n leaves (omega arith) in
-      let names : length (face_of claim.design).inputs ≡ n = length_map string_bytes claim.design.inputs.items in
-      behind_front (take n leaves) (next_registers claim leaves) leaf (omega arith) ∙ ap (λ k. slice_index_or (next_registers claim leaves) (leaf - k) false) taken
+  seen_inputs : (inp : Values) → length (values_of inp (interface_in claim.face).inputs) ≡ length claim.face.inputs.items
+  seen_inputs inp = length_map (λ (name : List ℕ). inp (name ∷ [])) (interface_in claim.face).inputs ∙ length_map string_bytes claim.face.inputs.items
 
-  -- a goal that its trial decides at all leaves
+  after_are : (s inp v s' : Values) → IsState S s → IsGiven S inp → Cycle S s inp v → Next S v s' → AreLeaves (interface_in claim.face) s' inp (leaves_after subject (all s inp))
+  after_are s inp v s' suits given cycle next =
+      let F = interface_in claim.face in
+      let front : AreBits (values_of inp F.inputs) (take (length (values_of inp F.inputs)) (leaves_before subject (all s inp))) =
+      front_bits (values_of inp F.inputs) (values_of s F.registers) (leaves_before subject (all s inp)) (before_are s inp suits given) in
+      let later : AreBits (values_of s' (bit_names subject.design.registers.items)) (seen rw' (values_of s' R)) =
+      seen_are s' subject.design.registers.items (does.state_within s' (fit.after s inp v s' suits given cycle next)) in
+      let back : AreBits (values_of s' F.registers) (seen rw' (next_numbers subject (all s inp))) =
+      ap (λ (f : Interface). values_of s' f.registers) fit.sees ∙ later ∙ ap (λ (ns : List ℕ). map bit_number (seen rw' ns)) (does.next s inp v s' cycle next) in
+      both_bits (values_of inp F.inputs) (values_of s' F.registers) (take (length claim.face.inputs.items) (leaves_before subject (all s inp))) (seen rw' (next_numbers subject (all s inp)))
+      (subst (λ (n : ℕ). AreBits (values_of inp F.inputs) (take n (leaves_before subject (all s inp)))) (seen_inputs inp) front) back
+
+  -- a goal that its trial decides at all numbers
   abbrev pub IsResetTold : Tried → Goal → Type 0
-  IsResetTold g goal = (s inp v s' : Values) (leaves : List Bool) → AreLeaves (face_of claim.design) s inp leaves → Cycle S s inp v → Next S v s' →
-      IsTold (reset_passes claim g leaves) (ResetGoal T s' goal)
+  IsResetTold g goal = (s inp v s' : Values) → IsState S s → IsGiven S inp → Cycle S s inp v → Next S v s' → IsTold (reset_at subject g (all s inp)) (ResetGoal T s' goal)
 
   abbrev pub IsEndTold : ClassTree → Tried → Goal → Type 0
-  IsEndTold c g goal = (s inp v s' : Values) (leaves : List Bool) → AreLeaves (face_of claim.design) s inp leaves → Cycle S s inp v → Next S v s' →
-      IsTold (end_passes claim g leaves) (EndGoal T c s inp s' goal)
+  IsEndTold c g goal = (s inp v s' : Values) → IsState S s → IsGiven S inp → Cycle S s inp v → Next S v s' →
+      IsTold (end_passes claim g (leaves_before subject (all s inp)) (leaves_after subject (all s inp))) (EndGoal T c s inp s' goal)
 
-  pub reset_decides : (g : Tried) (goal : Goal) → ((s inp : Values) → IsState S s → IsGiven S inp → HasOneCycle S s inp) → IsResetTold g goal → Decides S T claim (reset goal) (which.Reset g)
-  reset_decides g goal one told = record {
-    holds = λ w bits suits free on v s' cycle next.
-        (told w.state w.input v s' (with_reset claim.reset claim.active bits) (leaves_are w claim.active bits (active_is w.input suits.2) free) cycle next).yes on;
-    violated = λ w bits suits free off.
-        let here = one w.state w.input suits.0 suits.1 in
+  pub reset_decides : (g : Tried) (goal : Goal) → IsResetTold g goal → Decides S T subject (reset goal) (which.Reset g)
+  reset_decides g goal told = record {
+    holds = λ w suits on v s' cycle next.
+        (told w.state w.input v s' suits.0 suits.1 cycle next).yes (ap (reset_at subject g) (all_are w (bit_number claim.active) (active_is w.input suits.2)) ∙ on);
+    violated = λ w suits off.
+        let here = fit.one w.state w.input suits.0 suits.1 in
         let next = here.next here.cycle.0 in (
           here.cycle.0,
           (
             next.0,
             here.cycle.1,
             next.1,
-            (told w.state w.input here.cycle.0 next.0 (with_reset claim.reset claim.active bits) (leaves_are w claim.active bits (active_is w.input suits.2) free) here.cycle.1 next.1).no off,
+            (told w.state w.input here.cycle.0 next.0 suits.0 suits.1 here.cycle.1 next.1).no (ap (reset_at subject g) (all_are w (bit_number claim.active) (active_is w.input suits.2)) ∙ off),
           ),
         );
   }
 
   -- the premises, told by their test
-  premises_told : (s inp : Values) (leaves : List Bool) → AreLeaves (face_of claim.design) s inp leaves → IsTold (premises claim leaves) (Premises T is.small.class s)
+  premises_told : (s inp : Values) (leaves : List Bool) → AreLeaves (interface_in claim.face) s inp leaves → IsTold (premises claim leaves) (Premises T is.small.class s)
   premises_told s inp leaves are =
       let one = told_one (table_value T.invariant (source_names s)) (logic_value claim.invariant leaves) (is.invariant s inp leaves are) in
       let two = told_one (table_value T.boundary (source_names s)) (logic_value claim.boundary leaves) (is.boundary s inp leaves are) in
@@ -175,27 +208,27 @@ module _ (S : SourceTree) (T : TableTree) (claim : Claim) (does : Behaves S clai
       is_on {b = true} told p = refl
       is_on {b = false} told p = absurd (told.no refl p)
 
-  pub end_decides : (g : Tried) (goal : Goal) → ((s inp : Values) → IsState S s → IsGiven S inp → HasOneCycle S s inp) → IsEndTold is.small.class g goal →
-      Decides S T claim (ends is.small.class 0 goal) (which.End g)
-  end_decides g goal one told = record {
-    holds = λ w bits suits free on v s' cycle next kept.
-        let leaves = with_reset claim.reset (not claim.active) bits in
-        let are = leaves_are w (not claim.active) bits (idle_is w.input suits.2) free in
-        (told w.state w.input v s' leaves are cycle next).yes
-        (cond_on (premises claim leaves) (end_passes claim g leaves) (λ off. (premises_told w.state w.input leaves are).no off kept) on);
-    violated = λ w bits suits free off.
-        let leaves = with_reset claim.reset (not claim.active) bits in
-        let are = leaves_are w (not claim.active) bits (idle_is w.input suits.2) free in
-        let here = one w.state w.input suits.0 suits.1 in
+  pub end_decides : (g : Tried) (goal : Goal) → IsEndTold is.small.class g goal → Decides S T subject (ends is.small.class 0 goal) (which.End g)
+  end_decides g goal told = record {
+    holds = λ w suits on v s' cycle next kept.
+        let ns = all w.state w.input in
+        let here : end_at subject g ns ≡ true = ap (end_at subject g) (all_are w (bit_number (not claim.active)) (idle_is w.input suits.2)) ∙ on in
+        (told w.state w.input v s' suits.0 suits.1 cycle next).yes
+        (cond_on (premises claim (leaves_before subject ns)) (end_passes claim g (leaves_before subject ns) (leaves_after subject ns))
+        (λ off. (premises_told w.state w.input (leaves_before subject ns) (before_are w.state w.input suits.0 suits.1)).no off kept) here);
+    violated = λ w suits off.
+        let ns = all w.state w.input in
+        let there : end_at subject g ns ≡ false = ap (end_at subject g) (all_are w (bit_number (not claim.active)) (idle_is w.input suits.2)) ∙ off in
+        let here = fit.one w.state w.input suits.0 suits.1 in
         let next = here.next here.cycle.0 in
-        let parts = cond_off (premises claim leaves) (end_passes claim g leaves) off in (
+        let parts = cond_off (premises claim (leaves_before subject ns)) (end_passes claim g (leaves_before subject ns) (leaves_after subject ns)) there in (
           here.cycle.0,
           (
             next.0,
             here.cycle.1,
             next.1,
-            (premises_told w.state w.input leaves are).yes parts.0,
-            (told w.state w.input here.cycle.0 next.0 leaves are here.cycle.1 next.1).no parts.1,
+            (premises_told w.state w.input (leaves_before subject ns) (before_are w.state w.input suits.0 suits.1)).yes parts.0,
+            (told w.state w.input here.cycle.0 next.0 suits.0 suits.1 here.cycle.1 next.1).no parts.1,
           ),
         );
   }
@@ -210,54 +243,61 @@ module _ (S : SourceTree) (T : TableTree) (claim : Claim) (does : Behaves S clai
 
   -- the goals
   pub reset_invariant : IsResetTold goal.Invariant invariant
-  reset_invariant s inp v s' leaves are cycle next =
-      told_one (table_value T.invariant (source_names s')) (logic_value claim.invariant (next_leaves claim leaves)) (is.invariant s' inp (next_leaves claim leaves) (next_are s inp v s' leaves are cycle next))
+  reset_invariant s inp v s' suits given cycle next =
+      told_one (table_value T.invariant (source_names s')) (logic_value claim.invariant (leaves_after subject (all s inp)))
+      (is.invariant s' inp (leaves_after subject (all s inp)) (after_are s inp v s' suits given cycle next))
 
   pub reset_boundary : IsResetTold goal.Boundary boundary
-  reset_boundary s inp v s' leaves are cycle next =
-      told_one (table_value T.boundary (source_names s')) (logic_value claim.boundary (next_leaves claim leaves)) (is.boundary s' inp (next_leaves claim leaves) (next_are s inp v s' leaves are cycle next))
+  reset_boundary s inp v s' suits given cycle next =
+      told_one (table_value T.boundary (source_names s')) (logic_value claim.boundary (leaves_after subject (all s inp)))
+      (is.boundary s' inp (leaves_after subject (all s inp)) (after_are s inp v s' suits given cycle next))
 
   pub end_invariant : IsEndTold is.small.class goal.Invariant invariant
-  end_invariant s inp v s' leaves are cycle next =
-      told_one (table_value T.invariant (source_names s')) (logic_value claim.invariant (next_leaves claim leaves)) (is.invariant s' inp (next_leaves claim leaves) (next_are s inp v s' leaves are cycle next))
+  end_invariant s inp v s' suits given cycle next =
+      told_one (table_value T.invariant (source_names s')) (logic_value claim.invariant (leaves_after subject (all s inp)))
+      (is.invariant s' inp (leaves_after subject (all s inp)) (after_are s inp v s' suits given cycle next))
 
   pub end_boundary : IsEndTold is.small.class goal.Boundary boundary
-  end_boundary s inp v s' leaves are cycle next =
-      told_one (table_value T.boundary (source_names s')) (logic_value claim.boundary (next_leaves claim leaves)) (is.boundary s' inp (next_leaves claim leaves) (next_are s inp v s' leaves are cycle next))
+  end_boundary s inp v s' suits given cycle next =
+      told_one (table_value T.boundary (source_names s')) (logic_value claim.boundary (leaves_after subject (all s inp)))
+      (is.boundary s' inp (leaves_after subject (all s inp)) (after_are s inp v s' suits given cycle next))
 
-  pub reset_start : (number : ℕ) (row : SetTree) (one : Start) → slice_get claim.starts.items number ≡ Some one → IsClaimedStart (face_of claim.design) T row one → IsResetTold (goal.State number) (start row)
-  reset_start number row one at claimed s inp v s' leaves are cycle next =
+  pub reset_start : (number : ℕ) (row : SetTree) (one : Start) → slice_get claim.starts.items number ≡ Some one → IsClaimedStart (interface_in claim.face) T row one → IsResetTold (goal.State number) (start row)
+  reset_start number row one at claimed s inp v s' suits given cycle next =
       rw at
-      (told_same (state_value T.states (shown T s') row.name) (table_value row.value no_names) (next_leaf claim one.leaf leaves) (logic_value one.value leaves)
-      (claimed.state_is s' inp (next_leaves claim leaves) (next_are s inp v s' leaves are cycle next) ∙ ap bit_number (next_leaf_is s inp leaves one.leaf are claimed.behind))
-      (claimed.value_is leaves))
+      (told_same (state_value T.states (shown T s') row.name) (table_value row.value no_names) (slice_index_or (leaves_after subject (all s inp)) one.leaf false) (logic_value one.value (leaves_after subject (all s inp)))
+      (claimed.state_is s' inp (leaves_after subject (all s inp)) (after_are s inp v s' suits given cycle next))
+      (claimed.value_is (leaves_after subject (all s inp))))
 
-  pub end_state : (number : ℕ) (row : StateTree) (one : State) → slice_get claim.states.items number ≡ Some one → IsClaimedState (face_of claim.design) T is.small.class row one →
+  pub end_state : (number : ℕ) (row : StateTree) (one : State) → slice_get claim.states.items number ≡ Some one → IsClaimedState (interface_in claim.face) T is.small.class row one →
       IsEndTold is.small.class (goal.State number) (state row)
-  end_state number row one at claimed s inp v s' leaves are cycle next =
+  end_state number row one at claimed s inp v s' suits given cycle next =
       rw at
       (told_same (table_value row.shown (source_names s'))
       (set_value is.small.class.sets row.name (table_value row.shown (source_names s)) (class_names T (shown T s) 0 (loaded_word is.small.class (answer_of T inp))))
-      (next_leaf claim one.leaf leaves) (logic_value one.set leaves)
-      (claimed.shown_is s' inp (next_leaves claim leaves) (next_are s inp v s' leaves are cycle next) ∙ ap bit_number (next_leaf_is s inp leaves one.leaf are claimed.behind))
-      (claimed.set_is s inp leaves are))
+      (slice_index_or (leaves_after subject (all s inp)) one.leaf false) (logic_value one.set (leaves_before subject (all s inp)))
+      (claimed.shown_is s' inp (leaves_after subject (all s inp)) (after_are s inp v s' suits given cycle next))
+      (claimed.set_is s inp (leaves_before subject (all s inp)) (before_are s inp suits given)))
 
   -- the word of one bit
-  pub cover_decides : Decides S T claim cover which.Cover
+  pub cover_decides : Decides S T subject cover which.Cover
   cover_decides = record {
-    holds = λ w bits suits free on. (
+    holds = λ w suits on. (
       is.small.class,
       record {
         listed = subst (λ (cs : List ClassTree). IsIn is.small.class cs) (sym is.small.one_class) (inl refl);
-        fit = fits_bit w.word bits free ∙ on;
+        fit = fits_bit w.word (low w.word suits) ∙ on;
       },
     );
-    violated = λ w bits suits free off c class.
+    violated = λ w suits off c class.
         let same : c ≡ is.small.class = only (subst (λ (cs : List ClassTree). IsIn c cs) is.small.one_class class.listed) in
-        let fit : fits is.small.class.pattern w.word ≡ true = subst (λ (d : ClassTree). fits d.pattern w.word ≡ true) same class.fit in
-        let f : true ≡ false = sym fit ∙ fits_bit w.word bits free ∙ off in cc;
+        let fitted : fits is.small.class.pattern w.word ≡ true = subst (λ (d : ClassTree). fits d.pattern w.word ≡ true) same class.fit in
+        let f : true ≡ false = sym fitted ∙ fits_bit w.word (low w.word suits) ∙ off in cc;
   }
     where
+      low : (n : ℕ) → n < 2 ^ 1 → n ≤ 1
+      low n below = omega arith
+
       only : {c d : ClassTree} → IsIn c (d ∷ []) → c ≡ d
       only (inl same) = same
       only (inr none) = absurd none
@@ -274,64 +314,52 @@ module _ (S : SourceTree) (T : TableTree) (claim : Claim) (does : Behaves S clai
           and_true true = refl
           and_true false = refl
 
-      fits_bit : (word : ℕ) (bits : List Bool) → AreBits (word ∷ []) bits → fits is.small.class.pattern word ≡ place_fits claim.pattern (slice_index_or bits 0 false)
-      fits_bit word [] e = cc
-      fits_bit word (b ∷ bits) e =
-          let head : word ≡ bit_number b = cc in
-          ap (λ (p : List ℕ). fits p word) is.pattern ∙ ap (λ n. fits (claim.pattern ∷ []) n) head ∙ one_place claim.pattern b
+      fits_bit : (word : ℕ) → word ≤ 1 → fits is.small.class.pattern word ≡ place_fits claim.pattern (nat_eq (slice_index_or (word ∷ []) 0 0) 1)
+      fits_bit word below =
+          ap (λ (p : List ℕ). fits p word) is.pattern ∙ ap (λ n. fits (claim.pattern ∷ []) n) (bit_back word below) ∙ one_place claim.pattern (nat_eq word 1)
 
-  -- how many leaves there are
-  all_long : (s inp : Values) (leaves : List Bool) → AreLeaves (face_of claim.design) s inp leaves → length leaves ≡ length claim.design.inputs.items + length claim.design.registers.items
-  all_long s inp leaves are =
-      bits_long (values_of inp (face_of claim.design).inputs ++ values_of s (face_of claim.design).registers) leaves are
-      ∙ length-append (values_of inp (face_of claim.design).inputs) (values_of s (face_of claim.design).registers)
-      ∙ ap₂ (λ m n. m + n) (inputs_long inp)
-      (length_map (λ (name : List ℕ). s (name ∷ [])) (face_of claim.design).registers ∙ length_map string_bytes claim.design.registers.items)
+  -- the free values of a cycle are within their widths
+  reset_place : subject.reset < length iw
+  reset_place = slice_get_within iw subject.reset 1 fit.bit
 
-  -- the bits of a valuation of a state and an input
-  cycle_bits : (w : Valuation) (bit : Bool) → IsState S w.state → IsGiven S w.input → w.input (T.reset.port ∷ []) ≡ bit_number bit →
-      (bits : List Bool) × (AreBits (values_of w.input (without T.reset.port (root_inputs S.modules)) ++ values_of w.state (root_registers S.modules)) bits)
-      × (length bits ≡ length claim.design.inputs.items + length claim.design.registers.items - 1)
-  cycle_bits w bit is_state given at =
-      let free = values_of w.input (without T.reset.port (root_inputs S.modules)) ++ values_of w.state (root_registers S.modules) in
-      let low = all_both (λ n. n ≤ 1) (values_of w.input (without T.reset.port (root_inputs S.modules))) (values_of w.state (root_registers S.modules))
-      (values_are_low w.input (without T.reset.port (root_inputs S.modules)) (λ name among.
-      does.given_low w.input given name (subst (λ (xs : List (List ℕ)). IsIn name xs) does.inputs_are (from_filter (λ (x : List ℕ). not (bytes_eq x T.reset.port)) name (root_inputs S.modules) among).0)))
-      (values_are_low w.state (root_registers S.modules) (λ name among. does.state_low w.state is_state name (subst (λ (xs : List (List ℕ)). IsIn name xs) does.registers_are among))) in
-      let are : AreBits free (bits_in free) = are_bits free low in
-      let long = all_long w.state w.input (with_reset claim.reset bit (bits_in free)) (leaves_are w bit (bits_in free) at are) in
-      (bits_in free, are, (let more : length (with_reset claim.reset bit (bits_in free)) ≡ suc (length (bits_in free)) = one_longer claim.reset bit (bits_in free) in omega arith))
+  cycle_within : (w : Valuation) (value : ℕ) → IsState S w.state → IsGiven S w.input → w.input (T.reset.port ∷ []) ≡ value → AreWithin (but_one subject.reset iw rw') (free w)
+  cycle_within w value suits given at =
+      let whole : AreWithin (iw ++ rw') (all w.state w.input) = within_both iw rw' (values_of w.input I) (values_of w.state R) (does.given_within w.input given) (does.state_within w.state suits) in
+      let put : AreWithin (iw ++ rw') (with_reset subject.reset value (free w)) = subst (AreWithin (iw ++ rw')) (all_are w value at) whole in
+      let long : length (with_reset subject.reset value (free w)) ≡ length (iw ++ rw') = within_long (iw ++ rw') (with_reset subject.reset value (free w)) put in
+      let parts : length (iw ++ rw') ≡ length iw + length rw' = length-append iw rw' in
+      let longer : length (with_reset subject.reset value (free w)) ≡ suc (length (free w)) = one_longer subject.reset value (free w) in
+      within_out iw rw' (free w) subject.reset value reset_place (let p = reset_place in omega (arith, p, long, parts, longer)) put
+    where
+      one_longer : (place value : ℕ) (ns : List ℕ) → length (with_reset place value ns) ≡ suc (length ns)
+      one_longer zero value ns = refl
+      one_longer (suc place) value [] = refl
+      one_longer (suc place) value (n ∷ ns) = ap suc (one_longer place value ns)
 
-  -- a state and an input with given bits
-  cycle_valuation : (bit : Bool) (bits : List Bool) → length bits ≡ length claim.design.inputs.items + length claim.design.registers.items - 1 →
-      (w : Valuation) × IsState S w.state × IsGiven S w.input × (w.input (T.reset.port ∷ []) ≡ bit_number bit)
-      × AreBits (values_of w.input (without T.reset.port (root_inputs S.modules)) ++ values_of w.state (root_registers S.modules)) bits
-  cycle_valuation bit bits long =
-      let I = (face_of claim.design).inputs in
-      let R = (face_of claim.design).registers in
-      let n = length I in
-      let leaves = with_reset claim.reset bit bits in
-      let names : n ≡ length claim.design.inputs.items = length_map string_bytes claim.design.inputs.items in
-      let regs : length R ≡ length claim.design.registers.items = length_map string_bytes claim.design.registers.items in
-      let place : claim.reset < n = slice_get_within I claim.reset T.reset.port is.reset in
-      let more : length leaves ≡ suc (length bits) = one_longer claim.reset bit bits in
-      let front : length (take n leaves) ≡ n = length-take-le n leaves (omega arith) in
-      let back : length (drop n leaves) ≡ length R = let d = length-drop n leaves in omega arith in
-      let inp = valued I (take n leaves) in
-      let s = valued R (drop n leaves) in
-      let w : Valuation = record { word = 0; state = s; input = inp } in
-      let split : take n leaves ++ drop n leaves ≡ leaves = take-append-drop n leaves in
-      let are : AreBits (values_of inp I ++ values_of s R) leaves =
-      both_bits (values_of inp I) (values_of s R) (take n leaves) (drop n leaves)
-      (read_back I (take n leaves) does.inputs_distinct front) (read_back R (drop n leaves) does.registers_distinct back)
-      ∙ ap (map bit_number) split in
-      let out = take_out inp I (values_of s R) T.reset.port claim.reset bit bits does.inputs_distinct is.reset (omega arith) are in (
+  -- a state and an input with given numbers
+  cycle_valuation : (bit : Bool) (ns : List ℕ) → AreWithin (but_one subject.reset iw rw') ns →
+      (w : Valuation) × IsState S w.state × IsGiven S w.input × (w.input (T.reset.port ∷ []) ≡ bit_number bit) × (free w ≡ ns)
+  cycle_valuation bit ns within =
+      let put : AreWithin (iw ++ rw') (with_reset subject.reset (bit_number bit) ns) = within_put iw rw' ns subject.reset (bit_number bit) fit.bit (bit_low bit) within in
+      let parts = halves iw rw' (with_reset subject.reset (bit_number bit) ns) put in
+      let inp = does.given_of parts.front parts.front_within in
+      let s = does.state_of parts.back parts.back_within in
+      let w : Valuation = record { word = 0; state = s.0; input = inp.0 } in
+      let here : values_of inp.0 I ++ values_of s.0 R ≡ with_reset subject.reset (bit_number bit) ns = ap₂ (λ (xs ys : List ℕ). xs ++ ys) inp.2 s.2 ∙ parts.both in
+      let out = take_out inp.0 I (values_of s.0 R) T.reset.port subject.reset (bit_number bit) ns does.inputs_distinct fit.at (place_low ns within) here in (
         w,
-        does.low_state s (valued_low R (drop n leaves)),
-        does.low_given inp (valued_low I (take n leaves)),
+        s.1,
+        inp.1,
         out.0,
-        (ap₂ (λ (xs ys : List (List ℕ)). values_of inp (without T.reset.port xs) ++ values_of s ys) does.inputs_are does.registers_are ∙ out.1),
+        ap₂ (λ (xs ys : List (List ℕ)). values_of inp.0 (without T.reset.port xs) ++ values_of s.0 ys) does.inputs_are does.registers_are ∙ out.1,
       )
+    where
+      place_low : (ns : List ℕ) → AreWithin (but_one subject.reset iw rw') ns → subject.reset ≤ length ns
+      place_low ns within =
+          let long : length ns ≡ length (but_one subject.reset iw rw') = within_long (but_one subject.reset iw rw') ns within in
+          let parts : length (but_one subject.reset iw rw') ≡ length (take subject.reset iw) + length (drop (subject.reset + 1) iw ++ rw') = length-append (take subject.reset iw) (drop (subject.reset + 1) iw ++ rw') in
+          let taken : length (take subject.reset iw) ≡ subject.reset = length-take-le subject.reset iw (let p = reset_place in omega (arith, p)) in
+          omega (arith, long, parts, taken)
 
   is_active : (inp : Values) → inp (T.reset.port ∷ []) ≡ bit_number claim.active → IsActive T inp
   is_active inp at = at ∙ ap bit_number is.active ∙ sym (value_bit T.reset)
@@ -345,32 +373,25 @@ module _ (S : SourceTree) (T : TableTree) (claim : Claim) (does : Behaves S clai
       value_bit : (a : Active) → idle_value a ≡ bit_number (not a.value)
       value_bit a = elim a.value as (λ b. (if b then 0 else 1) ≡ bit_number (not b)) [ true ↦ refl | false ↦ refl ]
 
-  pub reset_spans : (g : Tried) (goal : Goal) → Spans S T claim (reset goal) (which.Reset g)
+  pub reset_spans : (g : Tried) (goal : Goal) → Spans S T subject (reset goal) (which.Reset g)
   reset_spans g goal = record {
-    bits = λ w suits. cycle_bits w claim.active suits.0 suits.1 (active_is w.input suits.2);
-    valuation = λ bits long. let made = cycle_valuation claim.active bits long in (made.0, (made.1, made.2, is_active made.0.input made.3), made.4);
+    within = λ w suits. cycle_within w (bit_number claim.active) suits.0 suits.1 (active_is w.input suits.2);
+    valuation = λ ns within. let made = cycle_valuation claim.active ns within in (made.0, (made.1, made.2, is_active made.0.input made.3), made.4);
   }
 
-  pub end_spans : (g : Tried) (goal : Goal) → Spans S T claim (ends is.small.class 0 goal) (which.End g)
+  pub end_spans : (g : Tried) (goal : Goal) → Spans S T subject (ends is.small.class 0 goal) (which.End g)
   end_spans g goal = record {
-    bits = λ w suits. cycle_bits w (not claim.active) suits.0 suits.1 (idle_is w.input suits.2);
-    valuation = λ bits long. let made = cycle_valuation (not claim.active) bits long in (made.0, (made.1, made.2, is_idle made.0.input made.3), made.4);
+    within = λ w suits. cycle_within w (bit_number (not claim.active)) suits.0 suits.1 (idle_is w.input suits.2);
+    valuation = λ ns within. let made = cycle_valuation (not claim.active) ns within in (made.0, (made.1, made.2, is_idle made.0.input made.3), made.4);
   }
 
-  pub cover_spans : Spans S T claim cover which.Cover
+  pub cover_spans : Spans S T subject cover which.Cover
   cover_spans = record {
-    bits = λ w below. (bits_in (w.word ∷ []), are_bits (w.word ∷ []) (low w.word below, tt), refl);
-    valuation = one_bit;
+    within = λ w below. (below, tt);
+    valuation = one_number;
   }
     where
-      low : (n : ℕ) → n < 2 ^ 1 → n ≤ 1
-      low n below = omega arith
-
-      below_two : (b : Bool) → bit_number b < 2 ^ 1
-      below_two true = omega arith
-      below_two false = omega arith
-
-      one_bit : (bits : List Bool) → length bits ≡ 1 → (w : Valuation) × IsValuation S T cover w × AreBits (free_values S T cover w) bits
-      one_bit [] long = absurd (omega arith)
-      one_bit (b ∷ []) long = (record { word = bit_number b; state = λ path. 0; input = λ path. 0 }, below_two b, refl)
-      one_bit (b ∷ c ∷ bits) long = absurd (omega arith)
+      one_number : (ns : List ℕ) → AreWithin (1 ∷ []) ns → (w : Valuation) × IsValuation S T cover w × (free_values S T cover w ≡ ns)
+      one_number [] within = absurd within
+      one_number (n ∷ []) within = (record { word = n; state = λ path. 0; input = λ path. 0 }, within.0, refl)
+      one_number (n ∷ m ∷ ns) within = absurd within.1

@@ -5,11 +5,11 @@ use Rattle.std.specs.List.{AllByRecursion}
 use Rattle.lola_tree.specs.declared.named.Ref.{Ref}
 use Rattle.lola_tree.specs.Tree.{Tree}
 use Rattle.lola_tree.specs.Value.{Values}
-use Rattle.lola_onebit.specs.declared.logic.Logic.{Logic}
-use Rattle.lola_onebit.specs.declared.scope.Scope.{Scope}
-use Rattle.lola_onebit.specs.Logic.{logic_value, bit_number}
-use Rattle.lola_onebit.specs.Scope.{HasReading, Reads}
-use Rattle.lola_onebit.specs.Small.{IsSmallExpr}
+use Rattle.lola_elab.specs.declared.logic.Logic.{Logic}
+use Rattle.lola_elab.specs.declared.scope.Scope.{Scope}
+use Rattle.lola_elab.specs.Logic.{logic_value, bit_number}
+use Rattle.lola_elab.specs.Scope.{HasReading, Reads}
+use Rattle.lola_elab.specs.Small.{IsSmallExpr}
 use Rattle.tab_tree.specs.Table.{StateTree, SetTree, ClassTree, TableTree}
 use Rattle.tab_tree.specs.Step.{source_names, class_names, set_value, loaded_word, table_value}
 use Rattle.lola_app.specs.declared.claim.Claim.{Claim}
@@ -17,7 +17,7 @@ use Rattle.lola_app.specs.declared.claim.State.{State}
 use Rattle.lola_app.specs.declared.claim.Start.{Start}
 use Rattle.lola_app.specs.declared.roles.Roles.{Roles}
 use Rattle.lola_app.specs.declared.states.Shown.{Shown}
-use Rattle.lola_app.specs.Claiming.{face_of, AreEach, MeansBit, IsClaimedState, IsClaimedStart, IsClaimOf}
+use Rattle.lola_app.specs.Claiming.{AreEach, MeansBit, IsClaimedState, IsClaimedStart, IsClaimOf}
 use Rattle.lola_app.specs.Classes.{IsPlainPhase, IsTaken}
 use Rattle.lola_app.specs.Fitting.{IsSetState}
 use Rattle.lola_app.specs.Headline.{shown, answer_of}
@@ -26,6 +26,7 @@ use Rattle.lola_app.specs.Scoping.{HasRegisters, HasClassNames}
 use Rattle.lola_app.specs.Shown.{IsShown, IsLoadedAt, AreRoles}
 use Rattle.lola_app.specs.Small.{Interface, IsSourceRegister, IsNoName, IsInClass, state_names, IsSmallRow, AreSmallRows, IsSmallClass, AreSmallStates, IsSmallTable}
 use Rattle.lola_app.specs.Starts.{leaf_under, IsStartRow}
+use Rattle.lola_app.specs.Vectors.{interface_in}
 use Rattle.lola_app.proofs.ClassNames.{class_is_scope}
 use Rattle.lola_app.proofs.ScopeMeans.{IsScope, small_map, registers_scope, shown_value, entered_under, names_shown}
 use Rattle.lola_app.proofs.Orders.{either}
@@ -156,11 +157,11 @@ parts_small {face = face} {T = T} {c = c} {roles = roles} {states = states} {tak
     }
 
 pub claim_is : (T : TableTree) (claim : Claim) (c : ClassTree) (roles : Roles) (states : List Shown) (taken : Option ℕ) (registers names : Scope) →
-    Parts (face_of claim.design) T c claim.pattern roles states taken registers names claim.invariant claim.boundary claim.states.items claim.starts.items →
+    Parts (interface_in claim.face) T c claim.pattern roles states taken registers names claim.invariant claim.boundary claim.states.items claim.starts.items →
     claim.reset ≡ roles.reset → claim.active ≡ T.reset.value → string_bytes claim.class ≡ c.name → IsClaimOf T claim
 unfolding parts_small
 claim_is T claim c roles states taken registers names parts reset active class =
-    let face = face_of claim.design in
+    let face = interface_in claim.face in
     let registers_are = registers_scope face registers parts.register_names in
     let class_is = class_is_scope face T c states roles.loaded taken names parts.class_has parts.shown_are parts.takes parts.roles_are.loaded in
     record {

@@ -22,3 +22,5 @@ mod NameRows
 mod Places
 mod Bridge
 mod Verdict
+mod Trying
+mod Faces

@@ -14,16 +14,18 @@ use Rattle.lola_parse.specs.Design.{SpellsSource}
 use Rattle.tab_tree.specs.Table.{TableTree}
 use Rattle.tab_tree.specs.Step.{inside_classes}
 use Rattle.tab_read.specs.Grammar.{SpellsTable}
+use Rattle.lola_elab.specs.Built.{IsBuiltSource}
+use Rattle.lola_elab.specs.Small.{IsSmallSource}
 use Rattle.lola_app.specs.Accepts.{Accepts, IsSpelled, AcceptsTable}
-use Rattle.lola_app.specs.Obligations.{Obligation, cover, reset, ends, obligations, obligation_name, Valuation, HoldsAt, IsViolatedAt, HoldsAlways, free_inputs, free_names, free_values, ComesBefore, IsLeastViolation}
+use Rattle.lola_app.specs.Obligations.{Obligation, cover, reset, ends, obligations, obligation_name, Valuation, HoldsAt, IsViolatedAt, HoldsAlways, free_inputs, free_names, free_values, free_widths, free_bits, IsNarrow, ComesBefore, IsLeastViolation}
 use Rattle.lola_width.specs.declared.fault.SourceFault.{SourceFault as SizeFault}
 use Rattle.lola_width.specs.Order.{first_after}
 use Rattle.lola_width.specs.Sized.{IsWellSized, first_fault}
 use Rattle.lola_app.specs.declared.fault.SourceFault.{SourceFault}
 use Rattle.lola_app.specs.declared.fault.SourceFault.TheVariants.{BadByte, NumberTooLarge, OpenComment, Syntax, IllSized, NotBuilt}
 use Rattle.lola_app.specs.Refused.{HasNoTree, HasLongExpression, HasSizeFault, IsOutside, IsRefused}
-use Rattle.lola_app.specs.Reply.{Line, Outcome, accepted, failed, wrong_words, source_refused, long_expression, table_not_built, unread, too_long, no_memory}
-use Rattle.lola_app.specs.Serve.{IsYes, IsNo, IsTableRefused, IsDecided, IsUngrammatical, lines_of}
+use Rattle.lola_app.specs.Reply.{Line, lines_of, Outcome, accepted, failed, too_many_bits, wrong_words, source_refused, long_expression, table_not_built, unread, too_long, no_memory}
+use Rattle.lola_app.specs.Serve.{IsYes, IsNo, IsLimited, IsTableRefused, IsDecided, IsUngrammatical}
 use Rattle.lola_app.proofs.Leaves.{length_map}
 use Rattle.lola_app.proofs.Readings.{source_of, small_of, table_of}
 
@@ -37,6 +39,10 @@ OneTreeLaw = (all : List Item) (t u : SourceTree) → SpellsSource all t → Spe
 abbrev pub OneTableLaw : Type 0
 OneTableLaw = (all : List Item) (T U : TableTree) → SpellsTable all T → SpellsTable all U → T ≡ U
 
+-- a design in the small form is of the forms that are built
+abbrev pub BuiltLaw : Type 0
+BuiltLaw = (S : SourceTree) → IsSmallSource S → IsBuiltSource S
+
 pub one_source : OneReadingLaw → OneTreeLaw → (bytes : List ℕ) (S R : SourceTree) → Accepts bytes S → Accepts bytes R → S ≡ R
 one_source reading tree bytes S R s r = tree (items_of Design bytes r.tokens) S R (source_of bytes r.tokens S (reading bytes) r.spells s) r.source
 
@@ -48,6 +54,27 @@ pub not_both : (S : SourceTree) (T : TableTree) (o : Obligation) (w : Valuation)
 not_both S T cover w holds violated = violated holds.0 holds.1
 not_both S T (reset goal) w holds (v, (s', cycle, next, off)) = off (holds v s' cycle next)
 not_both S T (ends c phase goal) w holds (v, (s', cycle, next, premises, off)) = off (holds v s' cycle next premises)
+
+-- where all can be tried, each can
+narrow_in : (S : SourceTree) (T : TableTree) (before later : List Obligation) (o : Obligation) → AllByRecursion (IsNarrow S T) (before ++ o ∷ later) → IsNarrow S T o
+narrow_in S T [] later o all = all.0
+narrow_in S T (x ∷ before) later o all = narrow_in S T before later o all.1
+
+-- the first that can't is one
+first_wide_is_one : (S : SourceTree) (T : TableTree) (before before' later later' : List Obligation) (o p : Obligation) → before ++ o ∷ later ≡ before' ++ p ∷ later' →
+    AllByRecursion (IsNarrow S T) before → AllByRecursion (IsNarrow S T) before' → 16 < free_bits S T o → 16 < free_bits S T p → o ≡ p
+first_wide_is_one S T [] [] later later' o p e all all' wide wide' = cc
+first_wide_is_one S T [] (y ∷ before') later later' o p e all all' wide wide' =
+    let same : o ≡ y = cc in
+    let narrow : free_bits S T o ≤ 16 = subst (IsNarrow S T) (sym same) all'.0 in
+    absurd (omega (arith, wide, narrow))
+first_wide_is_one S T (x ∷ before) [] later later' o p e all all' wide wide' =
+    let same : x ≡ p = cc in
+    let narrow : free_bits S T p ≤ 16 = subst (IsNarrow S T) same all.0 in
+    absurd (omega (arith, wide', narrow))
+first_wide_is_one S T (x ∷ before) (y ∷ before') later later' o p e all all' wide wide' =
+    let tail : before ++ o ∷ later ≡ before' ++ p ∷ later' = cc in
+    first_wide_is_one S T before before' later later' o p tail all.1 all'.1 wide wide'
 
 -- so where all hold none is violated
 holds_in : (S : SourceTree) (T : TableTree) (before later : List Obligation) (o : Obligation) → AllByRecursion (HoldsAlways S T) (before ++ o ∷ later) → HoldsAlways S T o
@@ -112,7 +139,7 @@ named_as (scan.NumberTooLarge at) = NumberTooLarge at
 named_as (scan.OpenComment at) = OpenComment at
 named_as scan.Memory = NotBuilt
 
-module _ (reading : OneReadingLaw) (tree : OneTreeLaw) (table : OneTableLaw) (s t : List ℕ) where
+module _ (reading : OneReadingLaw) (tree : OneTreeLaw) (table : OneTableLaw) (built : BuiltLaw) (s t : List ℕ) where
   same_pair : (S R : SourceTree) (T U : TableTree) → Accepts s S → Accepts s R → AcceptsTable S t T → AcceptsTable R t U → (S ≡ R) × (T ≡ U)
   same_pair S R T U one two three four = (one_source reading tree s S R one two, one_table reading table t T U three.spelled four.spelled)
 
@@ -140,14 +167,34 @@ module _ (reading : OneReadingLaw) (tree : OneTreeLaw) (table : OneTableLaw) (s 
           let listed : obligations one.T ≡ two.before ++ two.first ∷ two.later = ap obligations (sym same.1) ∙ two.listed in
           let earlier = subst (λ (R : SourceTree). AllByRecursion (HoldsAlways R one.T) two.before) same.0 (subst (λ (U : TableTree). AllByRecursion (HoldsAlways two.S U) two.before) same.1 two.earlier) in
           let least = subst (λ (R : SourceTree). IsLeastViolation R one.T two.first two.valuation) same.0 (subst (λ (U : TableTree). IsLeastViolation two.S U two.first two.valuation) same.1 two.least) in
-          let lines : l ≡ lines_of (free_names one.S one.T two.first) (free_values one.S one.T two.first two.valuation) =
-          two.lines_are ∙ ap₂ (λ (R : SourceTree) (U : TableTree). lines_of (free_names R U two.first) (free_values R U two.first two.valuation)) same.0 same.1 in
+          let lines : l ≡ lines_of (free_names one.S one.T two.first) (free_widths one.S one.T two.first) (free_values one.S one.T two.first two.valuation) =
+          two.lines_are ∙ ap₂ (λ (R : SourceTree) (U : TableTree). lines_of (free_names R U two.first) (free_widths R U two.first) (free_values R U two.first two.valuation)) same.0 same.1 in
           let first : one.first ≡ two.first = first_is_one one.S one.T one.before two.before one.later two.later one.first two.first one.valuation two.valuation (sym one.listed ∙ listed) one.earlier earlier one.least least in
           let least' = subst (λ (o : Obligation). IsLeastViolation one.S one.T o two.valuation) (sym first) least in
           let values = least_is_one one.S one.T one.first one.valuation two.valuation one.least least' in
           ap₂ failed (one.name_is ∙ ap obligation_name first ∙ sym two.name_is)
-          (one.lines_are ∙ ap (λ (ns : List ℕ). lines_of (free_names one.S one.T one.first) ns) values
-          ∙ ap (λ (o : Obligation). lines_of (free_names one.S one.T o) (free_values one.S one.T o two.valuation)) first ∙ sym lines)
+          (one.lines_are ∙ ap (λ (ns : List ℕ). lines_of (free_names one.S one.T one.first) (free_widths one.S one.T one.first) ns) values
+          ∙ ap (λ (o : Obligation). lines_of (free_names one.S one.T o) (free_widths one.S one.T o) (free_values one.S one.T o two.valuation)) first ∙ sym lines)
+
+  -- where one obligation is too wide, not all can be tried
+  never_wide : (S : SourceTree) (T : TableTree) (n : List ℕ) (c : ℕ) → Accepts s S → AcceptsTable S t T → AllByRecursion (IsNarrow S T) (obligations T) → IsLimited s t n c → ⊥
+  never_wide S T n c design fitting all two =
+      let same = same_pair S two.S T two.T design two.design fitting two.fitting in
+      let there : AllByRecursion (IsNarrow two.S two.T) (obligations two.T) =
+      subst (λ (R : SourceTree). AllByRecursion (IsNarrow R two.T) (obligations two.T)) same.0 (subst (λ (U : TableTree). AllByRecursion (IsNarrow S U) (obligations U)) same.1 all) in
+      let narrow : free_bits two.S two.T two.first ≤ 16 = narrow_in two.S two.T two.before two.later two.first (subst (AllByRecursion (IsNarrow two.S two.T)) two.listed there) in
+      let wide : 16 < free_bits two.S two.T two.first = two.wide in
+      omega (arith, narrow, wide)
+
+  two_limited : (m n : List ℕ) (k l : ℕ) → IsLimited s t m k → IsLimited s t n l → too_many_bits m k ≡ too_many_bits n l
+  two_limited m n k l one two =
+      let same = same_pair two.S one.S two.T one.T two.design one.design two.fitting one.fitting in
+      let listed : obligations one.T ≡ two.before ++ two.first ∷ two.later = ap obligations (sym same.1) ∙ two.listed in
+      let earlier = subst (λ (R : SourceTree). AllByRecursion (IsNarrow R one.T) two.before) same.0 (subst (λ (U : TableTree). AllByRecursion (IsNarrow two.S U) two.before) same.1 two.earlier) in
+      let bits : free_bits two.S two.T two.first ≡ free_bits one.S one.T two.first = ap₂ (λ (R : SourceTree) (U : TableTree). free_bits R U two.first) same.0 same.1 in
+      let wide = subst (λ (b : ℕ). 16 < b) bits two.wide in
+      let first : one.first ≡ two.first = first_wide_is_one one.S one.T one.before two.before one.later two.later one.first two.first (sym one.listed ∙ listed) one.earlier earlier one.wide wide in
+      ap₂ too_many_bits (one.name_is ∙ ap obligation_name first ∙ sym two.name_is) (one.count_is ∙ ap (free_bits one.S one.T) first ∙ sym bits ∙ sym two.count_is)
 
   refused_none : {S : SourceTree} {T : TableTree} → IsTableRefused s t → Accepts s S → AcceptsTable S t T → ⊥
   refused_none {S = S} {T = T} refused design fitting =
@@ -196,7 +243,7 @@ module _ (reading : OneReadingLaw) (tree : OneTreeLaw) (table : OneTableLaw) (s 
   not_accepted {S = S} (by_size error has is) accepts =
       never_sized has.S S error (same_tree has.S S has.tokens accepts.tokens has.spells has.spelled accepts.spells accepts.source) has.first accepts.sized
   not_accepted {S = S} (by_form outside is) accepts =
-      outside.large (small_of s outside.tokens S outside.S (reading s) tree outside.spells outside.spelled accepts)
+      outside.large (built outside.S (small_of s outside.tokens S outside.S (reading s) tree outside.spells outside.spelled accepts))
 
   -- so two causes are one, but for the two outcomes of grammar
   one_cause : (a b : Outcome) → SourceCause a → SourceCause b → (a ≡ b) ⊎ (IsUngrammatical a × IsUngrammatical b)
@@ -227,6 +274,7 @@ module _ (reading : OneReadingLaw) (tree : OneTreeLaw) (table : OneTableLaw) (s 
   pub one_answer_is : (a b : Outcome) → IsDecided s t a → IsDecided s t b → a ≢ no_memory → b ≢ no_memory → (a ≡ b) ⊎ (IsUngrammatical a × IsUngrammatical b)
   one_answer_is (accepted m k) (accepted n l) one two p q = inl (two_yes m n k l one two)
   one_answer_is (accepted m k) (failed n l) one two p q = absurd (yes_and_no m k n l one two)
+  one_answer_is (accepted m k) (too_many_bits n l) one two p q = absurd (never_wide one.headline.S one.headline.T n l one.headline.design one.headline.fitting one.narrow two)
   one_answer_is (accepted m k) (source_refused other) one two p q = absurd (not_accepted (cause_of other two) one.headline.design)
   one_answer_is (accepted m k) (long_expression place) one two p q = absurd (not_accepted (cause_of_long place two) one.headline.design)
   one_answer_is (accepted m k) table_not_built one two p q = absurd (refused_none two one.headline.design one.headline.fitting)
@@ -235,14 +283,25 @@ module _ (reading : OneReadingLaw) (tree : OneTreeLaw) (table : OneTableLaw) (s 
   one_answer_is (accepted m k) (too_long word) one two p q = absurd two
   one_answer_is (failed m k) (accepted n l) one two p q = absurd (yes_and_no n l m k two one)
   one_answer_is (failed m k) (failed n l) one two p q = inl (two_no m n k l one two)
+  one_answer_is (failed m k) (too_many_bits n l) one two p q = absurd (never_wide one.S one.T n l one.design one.fitting one.narrow two)
   one_answer_is (failed m k) (source_refused other) one two p q = absurd (not_accepted (cause_of other two) one.design)
   one_answer_is (failed m k) (long_expression place) one two p q = absurd (not_accepted (cause_of_long place two) one.design)
   one_answer_is (failed m k) table_not_built one two p q = absurd (refused_none two one.design one.fitting)
   one_answer_is (failed m k) wrong_words one two p q = absurd two
   one_answer_is (failed m k) (unread word) one two p q = absurd two
   one_answer_is (failed m k) (too_long word) one two p q = absurd two
+  one_answer_is (too_many_bits m k) (accepted n l) one two p q = absurd (never_wide two.headline.S two.headline.T m k two.headline.design two.headline.fitting two.narrow one)
+  one_answer_is (too_many_bits m k) (failed n l) one two p q = absurd (never_wide two.S two.T m k two.design two.fitting two.narrow one)
+  one_answer_is (too_many_bits m k) (too_many_bits n l) one two p q = inl (two_limited m n k l one two)
+  one_answer_is (too_many_bits m k) (source_refused other) one two p q = absurd (not_accepted (cause_of other two) one.design)
+  one_answer_is (too_many_bits m k) (long_expression place) one two p q = absurd (not_accepted (cause_of_long place two) one.design)
+  one_answer_is (too_many_bits m k) table_not_built one two p q = absurd (refused_none two one.design one.fitting)
+  one_answer_is (too_many_bits m k) wrong_words one two p q = absurd two
+  one_answer_is (too_many_bits m k) (unread word) one two p q = absurd two
+  one_answer_is (too_many_bits m k) (too_long word) one two p q = absurd two
   one_answer_is (source_refused fault) (accepted n l) one two p q = absurd (not_accepted (cause_of fault one) two.headline.design)
   one_answer_is (source_refused fault) (failed n l) one two p q = absurd (not_accepted (cause_of fault one) two.design)
+  one_answer_is (source_refused fault) (too_many_bits n l) one two p q = absurd (not_accepted (cause_of fault one) two.design)
   one_answer_is (source_refused fault) (source_refused other) one two p q = one_cause _ _ (cause_of fault one) (cause_of other two)
   one_answer_is (source_refused fault) (long_expression place) one two p q = one_cause _ _ (cause_of fault one) (cause_of_long place two)
   one_answer_is (source_refused fault) table_not_built one two p q = absurd (not_accepted (cause_of fault one) two.design)
@@ -251,6 +310,7 @@ module _ (reading : OneReadingLaw) (tree : OneTreeLaw) (table : OneTableLaw) (s 
   one_answer_is (source_refused fault) (too_long word) one two p q = absurd two
   one_answer_is (long_expression at) (accepted n l) one two p q = absurd (not_accepted (cause_of_long at one) two.headline.design)
   one_answer_is (long_expression at) (failed n l) one two p q = absurd (not_accepted (cause_of_long at one) two.design)
+  one_answer_is (long_expression at) (too_many_bits n l) one two p q = absurd (not_accepted (cause_of_long at one) two.design)
   one_answer_is (long_expression at) (source_refused other) one two p q = one_cause _ _ (cause_of_long at one) (cause_of other two)
   one_answer_is (long_expression at) (long_expression place) one two p q = one_cause _ _ (cause_of_long at one) (cause_of_long place two)
   one_answer_is (long_expression at) table_not_built one two p q = absurd (not_accepted (cause_of_long at one) two.design)
@@ -259,6 +319,7 @@ module _ (reading : OneReadingLaw) (tree : OneTreeLaw) (table : OneTableLaw) (s 
   one_answer_is (long_expression at) (too_long word) one two p q = absurd two
   one_answer_is table_not_built (accepted n l) one two p q = absurd (refused_none one two.headline.design two.headline.fitting)
   one_answer_is table_not_built (failed n l) one two p q = absurd (refused_none one two.design two.fitting)
+  one_answer_is table_not_built (too_many_bits n l) one two p q = absurd (refused_none one two.design two.fitting)
   one_answer_is table_not_built (source_refused other) one two p q = absurd (not_accepted (cause_of other two) one.design)
   one_answer_is table_not_built (long_expression place) one two p q = absurd (not_accepted (cause_of_long place two) one.design)
   one_answer_is table_not_built table_not_built one two p q = inl refl
@@ -271,6 +332,7 @@ module _ (reading : OneReadingLaw) (tree : OneTreeLaw) (table : OneTableLaw) (s 
   one_answer_is (too_long word) b one two p q = absurd one
   one_answer_is (accepted m k) no_memory one two p q = absurd (q refl)
   one_answer_is (failed m k) no_memory one two p q = absurd (q refl)
+  one_answer_is (too_many_bits m k) no_memory one two p q = absurd (q refl)
   one_answer_is (source_refused fault) no_memory one two p q = absurd (q refl)
   one_answer_is (long_expression at) no_memory one two p q = absurd (q refl)
   one_answer_is table_not_built no_memory one two p q = absurd (q refl)

@@ -4,8 +4,8 @@ use Rattle.std.specs.Prelude.{bytes_eq}
 use Rattle.std.proofs.lemmas.Option.{slice_get_read, slice_get-map}
 use Rattle.std.specs.Option.{option_map}
 use Rattle.lola_tree.specs.Cycle.{IsIn}
-use Rattle.lola_onebit.proofs.Lists.{same_name}
-use Rattle.lola_onebit.proofs.Steps.{drop_item}
+use Rattle.lola_elab.proofs.Lists.{same_name}
+use Rattle.lola_elab.proofs.Steps.{drop_item}
 use Rattle.tab_tree.specs.Table.{TableTree}
 use Rattle.lola_app.specs.declared.roles.Roles.{Roles}
 use Rattle.lola_app.specs.Naming.{IsAt}

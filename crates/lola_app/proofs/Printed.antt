@@ -1,17 +1,7 @@
 -- Names of free bits as they are printed.
-use Rattle.std.proofs.Common.{◌≡◌, ℕ, zero, suc, ◌+◌, ◌≤◌, Bool, List, [], ◌∷◌, ◌++◌, length, map, take, drop, refl, sym, ap, ◌∙◌, arith, append_assoc, append-nil}
+use Rattle.std.proofs.Common.{◌≡◌, ℕ, zero, suc, ◌+◌, List, [], ◌∷◌, ◌++◌, length, map, take, drop, refl, sym, ap, ◌∙◌, arith, append_assoc}
 use Rattle.std.specs.Prelude.{min}
-use Rattle.std.proofs.lemmas.List.{map-append, drop_all}
-use Rattle.lola_app.specs.Reply.{Line}
-use Rattle.lola_app.specs.Tried.{bit_lines}
-
-no_bits : (names : List (List ℕ)) → bit_lines names [] ≡ []
-no_bits [] = refl
-no_bits (name ∷ names) = refl
-
-pub pair_end : (done lines : List Line) (names : List (List ℕ)) (bits : List Bool) (n : ℕ) → length bits ≤ n → done ++ bit_lines names (drop n bits) ≡ lines → done ≡ lines
-pair_end done lines names bits n long e =
-    sym (append-nil done) ∙ ap (λ (l : List Line). done ++ l) (sym (ap (bit_lines names) (drop_all n bits long) ∙ no_bits names)) ∙ e
+use Rattle.std.proofs.lemmas.List.{map-append}
 
 -- a list up to a number, or up to its end where that is less
 pub take_min : {X : Type 0} (n : ℕ) (xs : List X) → take (min n (length xs)) xs ≡ take n xs
@@ -55,3 +45,7 @@ pub three_lists : (at : List ℕ → List ℕ) (a b c : List (List ℕ)) (one tw
 three_lists at a b c one two three e f g =
     g ∙ ap (λ l. l ++ map at c) (f ∙ ap (λ l. l ++ map at b) e) ∙ append_assoc (map at a) (map at b) (map at c)
     ∙ ap (λ l. map at a ++ l) (sym (map-append at b c)) ∙ sym (map-append at a (b ++ c))
+
+-- three lists of numbers, one behind the other
+pub three_parts : (a b c one two three : List ℕ) → one ≡ a → two ≡ one ++ b → three ≡ two ++ c → three ≡ a ++ (b ++ c)
+three_parts a b c one two three e f g = g ∙ ap (λ l. l ++ c) (f ∙ ap (λ l. l ++ b) e) ∙ append_assoc a b c

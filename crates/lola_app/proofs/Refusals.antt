@@ -12,8 +12,8 @@ use Rattle.lola_parse.specs.Symbols.{items_of}
 use Rattle.lola_parse.specs.Long.{IsTooLong, LongSays}
 use Rattle.lola_width.specs.declared.fault.SourceFault.{SourceFault as SizeFault}
 use Rattle.lola_width.specs.declared.fault.SourceFault.TheVariants as size
-use Rattle.lola_onebit.specs.declared.fault.ElabError.{ElabError}
-use Rattle.lola_onebit.specs.declared.fault.ElabError.TheVariants as elab
+use Rattle.lola_elab.specs.declared.fault.ElabError.{ElabError}
+use Rattle.lola_elab.specs.declared.fault.ElabError.TheVariants as elab
 use Rattle.lola_app.specs.Refused.{HasNoTree, HasSizeFault, IsOutside, HasRefusal, HasLong, scan_refusal, parse_refusal, size_refusal, elab_refusal}
 
 -- a fault of the scanner is the text's first

@@ -6,16 +6,16 @@ use Rattle.lola_tree.specs.Tree.{Tree, number, whole, bit, slice, index, concat,
 use Rattle.lola_tree.specs.Value.{Path, Values}
 use Rattle.lola_tree.specs.Cycle.{IsIn}
 use Rattle.lola_tree.specs.Signals.{values_of}
-use Rattle.lola_onebit.specs.declared.scope.Reading.{Reading}
-use Rattle.lola_onebit.specs.declared.scope.Reading.TheVariants as reading
-use Rattle.lola_onebit.specs.declared.scope.Entry.{Entry}
-use Rattle.lola_onebit.specs.declared.scope.Scope.{Scope}
-use Rattle.lola_onebit.specs.Leaves.{leaves_from}
-use Rattle.lola_onebit.specs.Leaves.{shown as entered}
-use Rattle.lola_onebit.specs.Logic.{bit_number, AreBits}
-use Rattle.lola_onebit.specs.Scope.{find, find_path, reading_of, HasReading, reading_number, Reads}
-use Rattle.lola_onebit.specs.Small.{IsSmallExpr}
-use Rattle.lola_onebit.proofs.Lists.{same_name, is_same_name}
+use Rattle.lola_elab.specs.declared.scope.Reading.{Reading}
+use Rattle.lola_elab.specs.declared.scope.Reading.TheVariants as reading
+use Rattle.lola_elab.specs.declared.scope.Entry.{Entry}
+use Rattle.lola_elab.specs.declared.scope.Scope.{Scope}
+use Rattle.lola_elab.specs.Leaves.{leaves_from}
+use Rattle.lola_elab.specs.Leaves.{shown as entered}
+use Rattle.lola_elab.specs.Logic.{bit_number, AreBits}
+use Rattle.lola_elab.specs.Scope.{find, find_path, reading_of, HasReading, reading_number, Reads}
+use Rattle.lola_elab.specs.Small.{IsSmallExpr}
+use Rattle.lola_elab.proofs.Lists.{same_name, is_same_name}
 use Rattle.tab_tree.specs.Table.{StateTree}
 use Rattle.tab_tree.specs.Step.{source_names, state_value, table_value}
 use Rattle.lola_app.specs.declared.states.Shown.{Shown}

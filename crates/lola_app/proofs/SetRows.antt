@@ -4,8 +4,8 @@ use Rattle.std.specs.Prelude.{bytes_eq, string_bytes, if◌then◌else◌, Optio
 use Rattle.lola_tree.specs.declared.named.Ref.{Ref}
 use Rattle.lola_tree.specs.Tree.{tree}
 use Rattle.lola_tree.specs.Cycle.{IsIn}
-use Rattle.lola_onebit.proofs.Lists.{same_name, is_same_name}
-use Rattle.lola_onebit.proofs.Steps.{drop_item}
+use Rattle.lola_elab.proofs.Lists.{same_name, is_same_name}
+use Rattle.lola_elab.proofs.Steps.{drop_item}
 use Rattle.tab_tree.specs.declared.table.SetRow.{SetRow}
 use Rattle.tab_tree.specs.Table.{set_tree}
 use Rattle.tab_tree.specs.Step.{set_value, table_value}

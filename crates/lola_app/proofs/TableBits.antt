@@ -1,7 +1,7 @@
 -- In the scope of a table each name is one bit wide.
 use Rattle.std.proofs.Common.{refl}
 use Rattle.lola_tree.specs.declared.named.Ref.{Ref}
-use Rattle.lola_onebit.specs.Scope.{AreBitNames}
+use Rattle.lola_elab.specs.Scope.{AreBitNames}
 use Rattle.tab_tree.specs.Step.{table_scope}
 
 pub table_bits : (Names : Ref → Type 0) → AreBitNames Names table_scope

@@ -8,7 +8,7 @@ use Rattle.lola_parse.specs.declared.symbol.Language.TheVariants.{Design, Table}
 use Rattle.lola_parse.specs.Symbols.{items_of}
 use Rattle.lola_parse.specs.Design.{SpellsSource}
 use Rattle.lola_width.specs.Sized.{IsWellSized}
-use Rattle.lola_onebit.specs.Small.{IsSmallSource}
+use Rattle.lola_elab.specs.Small.{IsSmallSource}
 use Rattle.tab_tree.specs.Table.{TableTree}
 use Rattle.tab_read.specs.Grammar.{SpellsTable}
 use Rattle.lola_app.specs.Small.{interface_of, IsSmallTable}

@@ -1,10 +1,9 @@
--- What a claim over leaves has of the table that it was made of. The leaves of a design are its inputs
--- but the clock, and then its registers.
+-- What a claim over leaves has of the table that it was made of. The leaves are the bits that a table sees
+-- of a design: its one-bit inputs but the clock, and then its one-bit registers.
 use Rattle.std.specs.Prelude.{◌≡◌, ℕ, ◌≤◌, List, [], ◌∷◌, ◌++◌, length, map, Bool, false, Some, slice_get, slice_index_or, string_bytes}
 use Rattle.lola_tree.specs.Value.{Values}
 use Rattle.lola_tree.specs.Signals.{values_of}
-use Rattle.lola_onebit.specs.declared.design.Design.{Design}
-use Rattle.lola_onebit.specs.Logic.{logic_value, bit_number, AreBits}
+use Rattle.lola_elab.specs.Logic.{logic_value, bit_number, AreBits}
 use Rattle.tab_tree.specs.Table.{StateTree, SetTree, ClassTree, TableTree}
 use Rattle.tab_tree.specs.Step.{source_names, no_names, class_names, state_value, set_value, loaded_word, table_value}
 use Rattle.lola_app.specs.declared.claim.Claim.{Claim}
@@ -12,10 +11,7 @@ use Rattle.lola_app.specs.declared.claim.State.{State}
 use Rattle.lola_app.specs.declared.claim.Start.{Start}
 use Rattle.lola_app.specs.Headline.{shown, answer_of}
 use Rattle.lola_app.specs.Small.{Interface, IsSmallTable}
-
--- the interface of a one-bit design
-abbrev pub face_of : Design → Interface
-face_of d = record { root = string_bytes d.root; inputs = map string_bytes d.inputs.items; registers = map string_bytes d.registers.items }
+use Rattle.lola_app.specs.Vectors.{interface_in}
 
 -- two lists have their items side by side
 abbrev pub AreEach : {X Y : Type 0} → (X → Y → Type 0) → List X → List Y → Type 0
@@ -49,14 +45,14 @@ pub record IsClaimedStart (face : Interface) (T : TableTree) (row : SetTree) (st
   pub state_is : MeansBit face (λ s inp. state_value T.states (shown T s) row.name) (λ leaves. slice_index_or leaves start.leaf false)
   pub value_is : (leaves : List Bool) → table_value row.value no_names ≡ bit_number (logic_value start.value leaves)
 
--- a claim says of its design what the table says
+-- a claim says of what it sees what the table says
 pub record IsClaimOf (T : TableTree) (claim : Claim) : Type 0 where
-  pub small : IsSmallTable (face_of claim.design) T
-  pub reset : slice_get (map string_bytes claim.design.inputs.items) claim.reset ≡ Some T.reset.port
+  pub small : IsSmallTable (interface_in claim.face) T
+  pub reset : slice_get (map string_bytes claim.face.inputs.items) claim.reset ≡ Some T.reset.port
   pub active : claim.active ≡ T.reset.value
-  pub invariant : MeansBit (face_of claim.design) (λ s inp. table_value T.invariant (source_names s)) (logic_value claim.invariant)
-  pub boundary : MeansBit (face_of claim.design) (λ s inp. table_value T.boundary (source_names s)) (logic_value claim.boundary)
+  pub invariant : MeansBit (interface_in claim.face) (λ s inp. table_value T.invariant (source_names s)) (logic_value claim.invariant)
+  pub boundary : MeansBit (interface_in claim.face) (λ s inp. table_value T.boundary (source_names s)) (logic_value claim.boundary)
   pub class : string_bytes claim.class ≡ small.class.name
   pub pattern : small.class.pattern ≡ claim.pattern ∷ []
-  pub states : AreEach (IsClaimedState (face_of claim.design) T small.class) T.states claim.states.items
-  pub starts : AreEach (IsClaimedStart (face_of claim.design) T) T.starts claim.starts.items
+  pub states : AreEach (IsClaimedState (interface_in claim.face) T small.class) T.states claim.states.items
+  pub starts : AreEach (IsClaimedStart (interface_in claim.face) T) T.starts claim.starts.items

@@ -1,10 +1,10 @@
 -- The states of a claim by what their SET rows mean.
 use Rattle.std.specs.Prelude.{◌≡◌, ℕ, Bool, false, List, slice_index_or, string_bytes}
 use Rattle.lola_tree.specs.declared.named.Ref.{Ref}
-use Rattle.lola_onebit.specs.declared.logic.Logic.{Logic}
-use Rattle.lola_onebit.specs.declared.scope.Scope.{Scope}
-use Rattle.lola_onebit.specs.Logic.{logic_value, bit_number}
-use Rattle.lola_onebit.specs.Scope.{Reads}
+use Rattle.lola_elab.specs.declared.logic.Logic.{Logic}
+use Rattle.lola_elab.specs.declared.scope.Scope.{Scope}
+use Rattle.lola_elab.specs.Logic.{logic_value, bit_number}
+use Rattle.lola_elab.specs.Scope.{Reads}
 use Rattle.tab_tree.specs.Table.{SetTree}
 use Rattle.tab_tree.specs.Step.{set_value}
 use Rattle.lola_app.specs.declared.claim.State.{State}

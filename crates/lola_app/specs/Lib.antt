@@ -1,6 +1,7 @@
 pub mod Accepts
 pub mod Claiming
 pub mod Classes
+pub mod Cycle
 pub mod Deciding
 pub mod Fitting
 pub mod Headline
@@ -17,6 +18,7 @@ pub mod Shown
 pub mod Small
 pub mod Starts
 pub mod Status
-pub mod Tried
 pub mod Trial
+pub mod Tried
 pub mod Valuations
+pub mod Vectors

@@ -1,13 +1,14 @@
 -- The obligations of a table on a design: each speaks of one cycle.
-use Rattle.std.specs.Prelude.{◌≡◌, ◌⊎◌, ℕ, ◌^◌, ◌<◌, true, not, List, [], ◌∷◌, ◌++◌, map, filter, flat_map, bytes_eq, codes, decimal}
+use Rattle.std.specs.Prelude.{◌≡◌, ◌⊎◌, ℕ, ◌+◌, ◌^◌, ◌<◌, ◌≤◌, true, not, List, [], ◌∷◌, ◌++◌, map, filter, flat_map, bytes_eq, codes, decimal}
 use Rattle.std.specs.List.{AllByRecursion}
-use Rattle.lola_tree.specs.Tree.{SourceTree}
+use Rattle.lola_tree.specs.Tree.{ModuleTree, SourceTree}
 use Rattle.lola_tree.specs.Value.{Values}
 use Rattle.lola_tree.specs.Cycle.{IsState, IsGiven, Cycle, Next}
 use Rattle.lola_tree.specs.Signals.{root_inputs, root_registers, values_of}
 use Rattle.tab_tree.specs.Table.{StateTree, SetTree, ClassTree, TableTree}
 use Rattle.tab_tree.specs.Step.{fits, IsClass, word_width, source_names, no_names, class_names, state_value, set_value, loaded_word, table_value}
 use Rattle.lola_app.specs.Headline.{shown, shown_word, IsActive, IsIdle, answer_of}
+use Rattle.lola_app.specs.Small.{width_in}
 
 -- what an obligation says of the next state: the invariant, a boundary, the value of a START row, or
 -- the value that a class gives a state
@@ -122,6 +123,29 @@ abbrev pub free_values : SourceTree → TableTree → Obligation → Valuation �
 free_values S T cover w = w.word ∷ []
 free_values S T (reset goal) w = values_of w.input (free_inputs S T) ++ values_of w.state (root_registers S.modules)
 free_values S T (ends c phase goal) w = values_of w.input (free_inputs S T) ++ values_of w.state (root_registers S.modules)
+
+-- the width in bits of a name of the root, which is the last module
+abbrev pub root_width : List ModuleTree → List ℕ → ℕ
+root_width [] name = 0
+root_width (m ∷ []) name = width_in m name
+root_width (m ∷ n ∷ more) name = root_width (n ∷ more) name
+
+-- the widths of what an obligation leaves free, and how many free bits these are
+abbrev pub free_widths : SourceTree → TableTree → Obligation → List ℕ
+free_widths S T cover = word_width T ∷ []
+free_widths S T (reset goal) = map (root_width S.modules) (free_inputs S T ++ root_registers S.modules)
+free_widths S T (ends c phase goal) = map (root_width S.modules) (free_inputs S T ++ root_registers S.modules)
+
+abbrev pub total : List ℕ → ℕ
+total [] = 0
+total (w ∷ ws) = w + total ws
+
+abbrev pub free_bits : SourceTree → TableTree → Obligation → ℕ
+free_bits S T o = total (free_widths S T o)
+
+-- it leaves no more bits free than trying all cases is made for
+abbrev pub IsNarrow : SourceTree → TableTree → Obligation → Type 0
+IsNarrow S T o = free_bits S T o ≤ 16
 
 -- one list of values comes before another: at the first place where they differ it has the smaller
 abbrev pub ComesBefore : List ℕ → List ℕ → Type 0

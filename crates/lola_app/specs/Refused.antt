@@ -14,9 +14,9 @@ use Rattle.lola_parse.specs.Long.{IsTooLong}
 use Rattle.lola_width.specs.declared.fault.SourceFault.{SourceFault as SizeFault}
 use Rattle.lola_width.specs.declared.fault.SourceFault.TheVariants as size
 use Rattle.lola_width.specs.Sized.{IsWellSized, first_fault}
-use Rattle.lola_onebit.specs.declared.fault.ElabError.{ElabError}
-use Rattle.lola_onebit.specs.declared.fault.ElabError.TheVariants as elab
-use Rattle.lola_onebit.specs.Small.{IsSmallSource}
+use Rattle.lola_elab.specs.declared.fault.ElabError.{ElabError}
+use Rattle.lola_elab.specs.declared.fault.ElabError.TheVariants as elab
+use Rattle.lola_elab.specs.Built.{IsBuiltSource}
 use Rattle.lola_app.specs.declared.fault.SourceFault.{SourceFault}
 use Rattle.lola_app.specs.declared.fault.SourceFault.TheVariants.{BadByte, NumberTooLarge, OpenComment, Syntax, IllSized, NotBuilt}
 use Rattle.lola_app.specs.declared.fault.SourceError.{SourceError}
@@ -49,7 +49,7 @@ pub record IsOutside (source : List ℕ) : Type 0 where
   pub spells : Spells 0 source tokens
   pub spelled : SpellsSource (items_of Design source tokens) S
   pub sized : IsWellSized S
-  pub large : IsSmallSource S → ⊥
+  pub large : IsBuiltSource S → ⊥
 
 -- when each refusal of a design's text comes: a fault of the text where it is its first; Syntax where
 -- the text has no fault, and its tokens spell no design; a fault of names, widths or assignments where

@@ -1,9 +1,9 @@
 -- The entries of the scopes of a table.
 use Rattle.std.specs.Prelude.{◌≡◌, ℕ, false, List, [], ◌∷◌, ◌++◌, codes, Option, Some, None, string_bytes}
-use Rattle.lola_onebit.specs.declared.scope.Reading.{Reading}
-use Rattle.lola_onebit.specs.declared.scope.Reading.TheVariants as reading
-use Rattle.lola_onebit.specs.declared.scope.Scope.{Scope}
-use Rattle.lola_onebit.specs.Leaves.{leaves_from, shown}
+use Rattle.lola_elab.specs.declared.scope.Reading.{Reading}
+use Rattle.lola_elab.specs.declared.scope.Reading.TheVariants as reading
+use Rattle.lola_elab.specs.declared.scope.Scope.{Scope}
+use Rattle.lola_elab.specs.Leaves.{leaves_from, shown}
 use Rattle.lola_app.specs.declared.states.Shown.{Shown}
 
 -- a name and what it stands for

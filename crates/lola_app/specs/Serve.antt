@@ -1,15 +1,15 @@
 -- What a call of `serve` comes to, and what it leaves.
-use Rattle.std.specs.Prelude.{◌≡◌, ◌≢◌, ◌⊎◌, ℕ, ◌<◌, ◌≤◌, nat_eq, List, [], ◌∷◌, ◌++◌, length, codes, Option, Some, IfSome, IsSomeAnd, Result, Ok, Err, string_bytes}
+use Rattle.std.specs.Prelude.{◌≡◌, ◌≢◌, ◌⊎◌, ℕ, ◌<◌, ◌≤◌, List, [], ◌∷◌, ◌++◌, length, codes, Option, Some, IfSome, IsSomeAnd, Result, Ok, Err, string_bytes}
 use Rattle.std.specs.List.{AllByRecursion}
 use Rattle.lola_tree.specs.Tree.{SourceTree}
 use Rattle.lola_tree.specs.Value.{Values}
 use Rattle.lola_tree.specs.Cycle.{IsState, IsGiven}
-use Rattle.lola_onebit.specs.Elaborated.{HasOneCycle}
+use Rattle.lola_elab.specs.Elaborated.{HasOneCycle}
 use Rattle.tab_tree.specs.Table.{TableTree}
 use Rattle.tab_tree.specs.Step.{inside_classes}
 use Rattle.lola_app.specs.Accepts.{Accepts, AcceptsTable}
 use Rattle.lola_app.specs.Headline.{Resets, Commutes}
-use Rattle.lola_app.specs.Obligations.{Obligation, obligations, obligation_name, Valuation, HoldsAlways, AllHold, free_names, free_values, IsLeastViolation}
+use Rattle.lola_app.specs.Obligations.{Obligation, obligations, obligation_name, Valuation, HoldsAlways, AllHold, free_names, free_values, free_widths, free_bits, IsNarrow, IsLeastViolation}
 use Rattle.lola_port.specs.Outside.{Files, Counts, lookup, RoseAt, Rose, Same, Appended}
 use Rattle.lola_app.specs.declared.fault.SourceFault.TheVariants.{Syntax}
 use Rattle.lola_app.specs.declared.reply.Reply.{Reply}
@@ -18,7 +18,7 @@ use Rattle.lola_app.specs.declared.status.Status.{Status}
 use Rattle.lola_app.specs.declared.status.Status.TheVariants as status
 use Rattle.lola_app.specs.Printing.{AppendedFront}
 use Rattle.lola_app.specs.Refused.{IsRefused, HasLongExpression}
-use Rattle.lola_app.specs.Reply.{Line, Outcome, accepted, failed, wrong_words, source_refused, long_expression, table_not_built, unread, too_long, no_memory, status_of, text_of}
+use Rattle.lola_app.specs.Reply.{Line, lines_of, Outcome, accepted, failed, too_many_bits, wrong_words, source_refused, long_expression, table_not_built, unread, too_long, no_memory, status_of, text_of}
 
 -- the words are `decide` and the names of a design and of a table
 abbrev pub Decide : List (List ℕ) → List ℕ → List ℕ → Type 0
@@ -65,27 +65,23 @@ pub record IsHeadline (source table : List ℕ) : Type 0 where
   pub resets : Resets S T
   pub commutes : Commutes S T
 
--- all obligations of the table on the design hold, and so does the headline; the numbers are those of
--- the obligations and of the classes inside the claim
+-- all obligations of the table on the design can be tried and hold, and so does the headline; the numbers
+-- are those of the obligations and of the classes inside the claim
 pub record IsYes (source table : List ℕ) (obliged inside : ℕ) : Type 0 where
   pub headline : IsHeadline source table
+  pub narrow : AllByRecursion (IsNarrow headline.S headline.T) (obligations headline.T)
   pub all : AllHold headline.S headline.T
   pub obliged_is : obliged ≡ length (obligations headline.T)
   pub inside_is : inside ≡ length (inside_classes headline.T)
 
--- the lines of a valuation: the names that an obligation leaves free, each with its bit
-abbrev pub lines_of : List (List ℕ) → List ℕ → List Line
-lines_of [] values = []
-lines_of (name ∷ names) [] = []
-lines_of (name ∷ names) (n ∷ values) = record { name = name; value = nat_eq n 1 } ∷ lines_of names values
-
--- some obligation doesn't hold at some valuation: the first such in their order, named, with its least
--- valuation
+-- all obligations can be tried, and some doesn't hold at some valuation: the first such in their order,
+-- named, with its least valuation
 pub record IsNo (source table : List ℕ) (name : List ℕ) (lines : List Line) : Type 0 where
   pub S : SourceTree
   pub T : TableTree
   pub design : Accepts source S
   pub fitting : AcceptsTable S table T
+  pub narrow : AllByRecursion (IsNarrow S T) (obligations T)
   pub before : List Obligation
   pub first : Obligation
   pub later : List Obligation
@@ -94,7 +90,23 @@ pub record IsNo (source table : List ℕ) (name : List ℕ) (lines : List Line) 
   pub valuation : Valuation
   pub least : IsLeastViolation S T first valuation
   pub name_is : name ≡ obligation_name first
-  pub lines_are : lines ≡ lines_of (free_names S T first) (free_values S T first valuation)
+  pub lines_are : lines ≡ lines_of (free_names S T first) (free_widths S T first) (free_values S T first valuation)
+
+-- some obligation leaves more bits free than can be tried: the first such in their order, named, with the
+-- number of its free bits
+pub record IsLimited (source table : List ℕ) (name : List ℕ) (count : ℕ) : Type 0 where
+  pub S : SourceTree
+  pub T : TableTree
+  pub design : Accepts source S
+  pub fitting : AcceptsTable S table T
+  pub before : List Obligation
+  pub first : Obligation
+  pub later : List Obligation
+  pub listed : obligations T ≡ before ++ first ∷ later
+  pub earlier : AllByRecursion (IsNarrow S T) before
+  pub wide : 16 < free_bits S T first
+  pub name_is : name ≡ obligation_name first
+  pub count_is : count ≡ free_bits S T first
 
 -- the text of the design is accepted, and the other text spells no table that fits it
 pub record IsTableRefused (source table : List ℕ) : Type 0 where
@@ -106,6 +118,7 @@ pub record IsTableRefused (source table : List ℕ) : Type 0 where
 abbrev pub IsDecided : List ℕ → List ℕ → Outcome → Type 0
 IsDecided source table (accepted obliged inside) = IsYes source table obliged inside
 IsDecided source table (failed name lines) = IsNo source table name lines
+IsDecided source table (too_many_bits name count) = IsLimited source table name count
 IsDecided source table (source_refused fault) = IsRefused source fault
 IsDecided source table (long_expression at) = HasLongExpression source at
 IsDecided source table table_not_built = IsTableRefused source table
@@ -138,6 +151,7 @@ Due words told before now (too_long word) = AskedFor words told word × IsTooLon
 Due words told before now no_memory = Unit {0}
 Due words told before now (accepted obliged inside) = IsAnswer words told before now (accepted obliged inside)
 Due words told before now (failed name lines) = IsAnswer words told before now (failed name lines)
+Due words told before now (too_many_bits name count) = IsAnswer words told before now (too_many_bits name count)
 Due words told before now (source_refused fault) = IsAnswer words told before now (source_refused fault)
 Due words told before now (long_expression at) = IsAnswer words told before now (long_expression at)
 Due words told before now table_not_built = IsAnswer words told before now table_not_built

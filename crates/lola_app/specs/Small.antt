@@ -1,22 +1,34 @@
--- The small form of a table: what fits a design of one-bit ports and registers.
-use Rattle.std.specs.Prelude.{◌≡◌, ◌≢◌, ◌⊎◌, ℕ, ◌≤◌, Bool, true, false, nat_eq, nat_le, if◌then◌else◌, ◌&&◌, List, [], ◌∷◌, length, map, codes, Some, None}
+-- The small form of a table: what fits the ports and registers of one bit of a design.
+use Rattle.std.specs.Prelude.{◌≡◌, ◌≢◌, ◌⊎◌, ℕ, ◌≤◌, Bool, true, false, nat_eq, nat_le, if◌then◌else◌, ◌&&◌, List, [], ◌∷◌, length, map, filter, codes, Some, None}
 use Rattle.std.specs.List.{AllByRecursion}
 use Rattle.lola_tree.specs.declared.named.Ref.{Ref}
 use Rattle.lola_tree.specs.Tree.{Tree, number, whole, bit, slice, index, concat, negation, binary, choice, ModuleTree}
+use Rattle.lola_tree.specs.Names.{names_of}
+use Rattle.lola_tree.specs.Width.{entry_width}
+use Rattle.lola_tree.specs.Value.{or_zero}
 use Rattle.lola_tree.specs.Cycle.{IsIn}
 use Rattle.lola_tree.specs.Signals.{input_names, register_names}
-use Rattle.lola_onebit.specs.Small.{IsBit, IsSmallExpr, AreDistinct}
+use Rattle.lola_elab.specs.Small.{IsBit, IsSmallExpr, AreDistinct}
 use Rattle.tab_tree.specs.Table.{StateTree, SetTree, PhaseTree, ClassTree, TableTree}
 use Rattle.tab_tree.specs.Step.{loads_first}
 
--- what a table sees of a design: the name of its root, its inputs but the clock, and its registers
+-- what a table sees of a design: the name of its root, and of its inputs but the clock and of its registers
+-- those that are one bit wide
 pub record Interface : Type 0 where
   pub root : List ℕ
   pub inputs : List (List ℕ)
   pub registers : List (List ℕ)
 
+-- the width in bits of a name that is no array
+abbrev pub width_in : ModuleTree → List ℕ → ℕ
+width_in m name = or_zero (entry_width (names_of m) (names_of m name))
+
+-- those of one bit among some names
+abbrev pub bits_among : ModuleTree → List (List ℕ) → List (List ℕ)
+bits_among m names = filter (λ (name : List ℕ). nat_eq (width_in m name) 1) names
+
 abbrev pub interface_of : ModuleTree → Interface
-interface_of m = record { root = m.name; inputs = input_names m; registers = register_names m.locals }
+interface_of m = record { root = m.name; inputs = bits_among m (input_names m); registers = bits_among m (register_names m.locals) }
 
 -- `@` and the name of a register
 abbrev pub IsSourceRegister : List (List ℕ) → Ref → Type 0

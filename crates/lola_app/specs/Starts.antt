@@ -1,7 +1,7 @@
 -- The rows of START by the leaves of the states that they set.
 use Rattle.std.specs.Prelude.{◌≡◌, ℕ, Bool, if◌then◌else◌, List, [], ◌∷◌, Option, Some, None, bytes_eq, string_bytes}
-use Rattle.lola_onebit.specs.Logic.{logic_value, bit_number}
-use Rattle.lola_onebit.specs.Small.{IsSmallExpr}
+use Rattle.lola_elab.specs.Logic.{logic_value, bit_number}
+use Rattle.lola_elab.specs.Small.{IsSmallExpr}
 use Rattle.tab_tree.specs.Table.{SetTree}
 use Rattle.tab_tree.specs.Step.{no_names, table_value}
 use Rattle.lola_app.specs.declared.states.Shown.{Shown}

@@ -1,57 +1,64 @@
--- What trying the obligations of a claim comes to, with the names of free bits as they are printed.
-use Rattle.std.specs.Prelude.{◌≡◌, ℕ, ◌+◌, Bool, List, [], ◌∷◌, ◌++◌, map, take, drop, length, codes, string_bytes}
+-- What trying the obligations of a claim comes to, with the names of what is free as they are printed.
+use Rattle.std.specs.Prelude.{◌≡◌, ℕ, List, [], ◌∷◌, ◌++◌, map, length, codes, string_bytes}
 use Rattle.std.specs.List.{AllByRecursion}
-use Rattle.lola_app.specs.declared.claim.Claim.{Claim}
+use Rattle.lola_elab.specs.Elaborated.{vector_names}
+use Rattle.lola_app.specs.declared.subject.Subject.{Subject}
 use Rattle.lola_app.specs.declared.obligation.Obligation.{Obligation}
 use Rattle.lola_app.specs.declared.obligation.Which.{Which}
 use Rattle.lola_app.specs.declared.obligation.Which.TheVariants as which
-use Rattle.lola_app.specs.Deciding.{PassesAlways, IsFirstFailing}
+use Rattle.lola_app.specs.Deciding.{IsFew, IsFirstWide, PassesAlways, IsFirstFailing}
 use Rattle.lola_app.specs.Listing.{named_of, listed}
-use Rattle.lola_app.specs.Reply.{Line, Outcome, accepted, failed, wrong_words, source_refused, long_expression, table_not_built, unread, too_long, no_memory}
+use Rattle.lola_app.specs.Obligations.{total}
+use Rattle.lola_app.specs.Reply.{Line, lines_of, Outcome, accepted, failed, too_many_bits, wrong_words, source_refused, long_expression, table_not_built, unread, too_long, no_memory}
+use Rattle.lola_app.specs.Trial.{but_one, tried_widths}
 
--- the leaves that a cycle leaves free: the inputs but RESET, and the registers
-abbrev pub free_leaves : Claim → List (List ℕ)
-free_leaves claim =
-    take claim.reset (map string_bytes claim.design.inputs.items)
-    ++ (drop (claim.reset + 1) (map string_bytes claim.design.inputs.items) ++ map string_bytes claim.design.registers.items)
+-- what a cycle leaves free: the inputs but RESET, and the registers
+abbrev pub free_leaves : Subject → List (List ℕ)
+free_leaves subject = but_one subject.reset (vector_names subject.design.inputs.items) (vector_names subject.design.registers.items)
 
--- the names of an obligation's free bits as they are printed
-abbrev pub printed_names : Claim → Which → List (List ℕ)
-printed_names claim which.Cover = codes "i" ∷ []
-printed_names claim (which.Reset goal) = map (λ (name : List ℕ). codes "@" ++ name) (free_leaves claim)
-printed_names claim (which.End goal) = map (λ (name : List ℕ). codes "@" ++ name) (free_leaves claim)
+-- the names of what an obligation leaves free, as they are printed
+abbrev pub printed_names : Subject → Which → List (List ℕ)
+printed_names subject which.Cover = codes "i" ∷ []
+printed_names subject (which.Reset goal) = map (λ (name : List ℕ). codes "@" ++ name) (free_leaves subject)
+printed_names subject (which.End goal) = map (λ (name : List ℕ). codes "@" ++ name) (free_leaves subject)
 
--- names with their bits
-abbrev pub bit_lines : List (List ℕ) → List Bool → List Line
-bit_lines [] bits = []
-bit_lines (name ∷ names) [] = []
-bit_lines (name ∷ names) (bit ∷ bits) = record { name = name; value = bit } ∷ bit_lines names bits
-
--- all entries of the list pass
-pub record AllPass (claim : Claim) (obliged inside : ℕ) : Type 0 where
+-- all entries of the list leave few bits free, and pass
+pub record AllPass (subject : Subject) (obliged inside : ℕ) : Type 0 where
   pub list : List Obligation
-  pub is_listed : map named_of list ≡ listed claim
-  pub all : AllByRecursion (PassesAlways claim) list
+  pub is_listed : map named_of list ≡ listed subject.claim
+  pub few : AllByRecursion (IsFew subject) list
+  pub all : AllByRecursion (PassesAlways subject) list
   pub obliged_is : obliged ≡ length list
   pub inside_is : inside ≡ 1
 
--- the first that doesn't is named with its bits
-pub record OneFails (claim : Claim) (name : List ℕ) (lines : List Line) : Type 0 where
+-- all leave few bits free, and the first that doesn't pass is named with its numbers
+pub record OneFails (subject : Subject) (name : List ℕ) (lines : List Line) : Type 0 where
   pub list : List Obligation
   pub number : ℕ
-  pub bits : List Bool
-  pub is_listed : map named_of list ≡ listed claim
-  pub failing : IsFirstFailing claim list number bits
+  pub numbers : List ℕ
+  pub is_listed : map named_of list ≡ listed subject.claim
+  pub few : AllByRecursion (IsFew subject) list
+  pub failing : IsFirstFailing subject list number numbers
   pub name_is : name ≡ string_bytes failing.obligation.name
-  pub lines_are : lines ≡ bit_lines (printed_names claim failing.obligation.which) bits
+  pub lines_are : lines ≡ lines_of (printed_names subject failing.obligation.which) (tried_widths subject failing.obligation.which) numbers
 
-abbrev pub IsTried : Claim → Outcome → Type 0
-IsTried claim (accepted obliged inside) = AllPass claim obliged inside
-IsTried claim (failed name lines) = OneFails claim name lines
-IsTried claim no_memory = Unit {0}
-IsTried claim wrong_words = ⊥
-IsTried claim (source_refused fault) = ⊥
-IsTried claim (long_expression at) = ⊥
-IsTried claim table_not_built = ⊥
-IsTried claim (unread word) = ⊥
-IsTried claim (too_long word) = ⊥
+-- the first that leaves more than 16 bits free is named with their number
+pub record OneIsWide (subject : Subject) (name : List ℕ) (count : ℕ) : Type 0 where
+  pub list : List Obligation
+  pub number : ℕ
+  pub is_listed : map named_of list ≡ listed subject.claim
+  pub wide : IsFirstWide subject list number
+  pub name_is : name ≡ string_bytes wide.obligation.name
+  pub count_is : count ≡ total (tried_widths subject wide.obligation.which)
+
+abbrev pub IsTried : Subject → Outcome → Type 0
+IsTried subject (accepted obliged inside) = AllPass subject obliged inside
+IsTried subject (failed name lines) = OneFails subject name lines
+IsTried subject (too_many_bits name count) = OneIsWide subject name count
+IsTried subject no_memory = Unit {0}
+IsTried subject wrong_words = ⊥
+IsTried subject (source_refused fault) = ⊥
+IsTried subject (long_expression at) = ⊥
+IsTried subject table_not_built = ⊥
+IsTried subject (unread word) = ⊥
+IsTried subject (too_long word) = ⊥

@@ -1,26 +1,25 @@
--- Lists of bits in their order, and a test at all of them.
-use Rattle.std.specs.Prelude.{◌≡◌, ℕ, zero, suc, ◌-◌, ◌^◌, Bool, true, false, nat_lt, if◌then◌else◌, List, [], ◌∷◌, length}
+-- Numbers of given widths in their order, and a test at all of them.
+use Rattle.std.specs.Prelude.{◌≡◌, ℕ, ◌<◌, ◌^◌, ◌/◌, ◌%◌, Bool, true, false, List, [], ◌∷◌}
+use Rattle.lola_app.specs.Obligations.{total, ComesBefore}
 
--- the bits of a number below 2 to a count, the highest first
-abbrev pub bits_of : ℕ → ℕ → List Bool
-bits_of zero n = []
-bits_of (suc k) n = if nat_lt n (2 ^ k) then false ∷ bits_of k n else true ∷ bits_of k (n - 2 ^ k)
+-- a number for each width, below 2 to it
+abbrev pub AreWithin : List ℕ → List ℕ → Type 0
+AreWithin [] [] = Unit {0}
+AreWithin [] (n ∷ ns) = ⊥
+AreWithin (w ∷ ws) [] = ⊥
+AreWithin (w ∷ ws) (n ∷ ns) = (n < 2 ^ w) × AreWithin ws ns
 
--- one list comes before another of its length: at the first place where they differ it has 0
-abbrev pub Before : List Bool → List Bool → Type 0
-Before [] w = ⊥
-Before (false ∷ v) (false ∷ w) = Before v w
-Before (true ∷ v) (true ∷ w) = Before v w
-Before (false ∷ v) (true ∷ w) = Unit {0}
-Before (true ∷ v) (false ∷ w) = ⊥
-Before (b ∷ v) [] = ⊥
+-- the numbers of these widths whose bits, one behind the other, are those of one number
+abbrev pub numbers_of : List ℕ → ℕ → List ℕ
+numbers_of [] n = []
+numbers_of (w ∷ ws) n = n / 2 ^ total ws ∷ numbers_of ws (n % 2 ^ total ws)
 
--- a test passes at every list of so many bits
-abbrev pub Always : (List Bool → Bool) → ℕ → Type 0
-Always test k = (w : List Bool) → length w ≡ k → test w ≡ true
+-- a test passes at all numbers of these widths
+abbrev pub Always : (List ℕ → Bool) → List ℕ → Type 0
+Always test ws = (ns : List ℕ) → AreWithin ws ns → test ns ≡ true
 
--- the least list of so many bits at which a test fails
-pub record IsLeast (test : List Bool → Bool) (k : ℕ) (w : List Bool) : Type 0 where
-  pub long : length w ≡ k
-  pub fails : test w ≡ false
-  pub least : (v : List Bool) → length v ≡ k → Before v w → test v ≡ true
+-- the least numbers of these widths at which a test fails
+pub record IsLeast (test : List ℕ → Bool) (ws ns : List ℕ) : Type 0 where
+  pub within : AreWithin ws ns
+  pub fails : test ns ≡ false
+  pub least : (ms : List ℕ) → AreWithin ws ms → ComesBefore ms ns → test ms ≡ true

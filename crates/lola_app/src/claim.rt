@@ -1,16 +1,18 @@
-ghost use Rattle.std.specs.Prelude.{◌≡◌, ◌↔◌, ◌+◌, ◌≤◌, length, string_bytes, IfOk, IsTrue};
+ghost use Rattle.std.specs.Prelude.{◌≡◌, ◌↔◌, ◌+◌, ◌≤◌, length, IfOk, IsTrue};
 ghost use Rattle.tab_tree.specs.Table.{table_tree};
-ghost use Rattle.lola_app.specs.Claiming.{face_of, IsClaimOf};
+ghost use Rattle.lola_app.specs.Claiming.{IsClaimOf};
 ghost use Rattle.lola_app.specs.Small.{IsSmallTable};
+ghost use Rattle.lola_app.specs.Vectors.{interface_in};
 
 use crate::classes::{only_class, only_place, taken_leaf};
+use crate::face::Face;
 use crate::fault::ReadError;
 use crate::meaning::meaning;
 use crate::roles::roles_of;
 use crate::rows::{check_sets, claimed_states, starts_of};
 use crate::scopes::{class_scope, register_scope};
 use crate::states::shown_states;
-use lola_onebit::{Design, Logic};
+use lola_elab::Logic;
 use std::alloc::Global;
 use tab_tree::Table;
 
@@ -30,10 +32,10 @@ pub struct Start {
     pub value: Logic,
 }
 
-/// What a table says of a design, over the design's leaves.
+/// What a table says of a design, over the leaves that it sees.
 #[derive(Drop)]
 pub struct Claim {
-    pub design: Design,
+    pub face: Face,
     /// The leaf of RESET, and the value at which it is active.
     pub reset: usize,
     pub active: bool,
@@ -46,22 +48,22 @@ pub struct Claim {
     pub starts: Vec<Start>,
 }
 
-/// The claim of a table about a design. NotBuilt where the table doesn't fit the design in the small
-/// form.
-pub fn fit(alloc: Global, table: &Table, design: Design) -> Result<Claim, ReadError>
-    requires few { length design.inputs.items + length design.registers.items ≤ 16 }
+/// The claim of a table about what it sees of a design. NotBuilt where the table doesn't fit that in the
+/// small form.
+pub fn fit(alloc: Global, table: &Table, face: Face) -> Result<Claim, ReadError>
+    requires few { length face.inputs.items + length face.registers.items ≤ 65536 }
     ensures ok { IfOk result (λ claim. IsClaimOf (table_tree table.now) claim) }
-    ensures design { IfOk result (λ claim. claim.design ≡ design) }
-    ensures none { result ≡ Err ReadError.NotBuilt → IsSmallTable (face_of design) (table_tree table.now) → ⊥ }
+    ensures face { IfOk result (λ claim. claim.face ≡ face) }
+    ensures none { result ≡ Err ReadError.NotBuilt → IsSmallTable (interface_in face) (table_tree table.now) → ⊥ }
 {
-    if !is_for(table, design.root.as_str()) {
+    if !is_for(table, face.root.as_str()) {
         return Err(ReadError::NotBuilt);
     }
-    let roles = match roles_of(table, design.inputs.as_slice()) {
+    let roles = match roles_of(table, face.inputs.as_slice()) {
         Ok(roles) => roles,
         Err(fault) => return Err(fault),
     };
-    let shown = match shown_states(alloc, table.states.items(), &design) {
+    let shown = match shown_states(alloc, table.states.items(), &face) {
         Ok(shown) => shown,
         Err(fault) => return Err(fault),
     };
@@ -74,7 +76,7 @@ pub fn fit(alloc: Global, table: &Table, design: Design) -> Result<Claim, ReadEr
     let Some(taken) = taken_leaf(class.phases.items(), roles.loaded) else {
         return Err(ReadError::NotBuilt);
     };
-    let registers = register_scope(alloc, &design)?;
+    let registers = register_scope(alloc, &face)?;
     let invariant = match meaning(alloc, &table.invariant, &registers) {
         Ok(invariant) => invariant,
         Err(fault) => return Err(fault),
@@ -105,7 +107,7 @@ pub fn fit(alloc: Global, table: &Table, design: Design) -> Result<Claim, ReadEr
         pattern,
         states,
         starts,
-        design,
+        face,
     })
 }
 

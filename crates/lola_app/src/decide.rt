@@ -1,32 +1,63 @@
-ghost use Rattle.std.specs.Prelude.{◌≡◌, ◌≤◌, ◌<◌, ◌^◌, ◌+◌, ◌++◌, length, false, map, IfOk, OnOk, MatchOption, slice_get, slice_index_or};
-ghost use Rattle.lola_onebit.specs.declared.logic.Logic.{Logic};
-ghost use Rattle.lola_app.specs.Trial.{with_reset, next_leaves, next_leaf, place_fits, start_passes, state_passes, reset_passes, end_passes, premises, passes, free_count};
-ghost use Rattle.lola_app.specs.Valuations.{bits_of, Always, IsLeast};
-ghost use Rattle.lola_app.specs.Deciding.{IsDecidedBy};
-ghost use Rattle.lola_onebit.specs.Logic.{logic_value};
+ghost use Rattle.std.specs.Prelude.{◌≡◌, ◌≤◌, ◌<◌, ◌^◌, ◌++◌, length, [], ◌∷◌, drop, false, map, IfOk, OnOk, MatchOption, slice_index_or};
+ghost use Rattle.std.specs.List.{AllByRecursion};
 ghost use Rattle.std.specs.Option.{option_copied};
+ghost use Rattle.lola_elab.specs.Elaborated.{vector_widths};
+ghost use Rattle.lola_app.specs.Deciding.{IsFew, IsFirstWide, IsDecidedBy};
+ghost use Rattle.lola_app.specs.Obligations.{total};
+ghost use Rattle.lola_app.specs.Trial.{but_one, place_fits, start_passes, state_passes, reset_passes, end_passes, premises, passes, tried_widths, IsTriable};
+ghost use Rattle.lola_app.specs.Valuations.{AreWithin, numbers_of, Always, IsLeast};
 
 use crate::claim::{Claim, Start, State};
+use crate::cycle::{leaves_after, leaves_before, vectors_with};
 use crate::obligation::{Goal, Obligation, Which};
-use lola_onebit::{Logic, eval};
+use crate::subject::{Subject, add_widths};
+use lola_bits::Memory;
+use lola_elab::{Vector, eval};
 use std::alloc::{AllocError, Global};
 
 /// Whether all obligations hold at every valuation, or the number of the first that fails with its
-/// least valuation: the free bits in order, where 0 comes before 1.
+/// least valuation: the numbers of what it leaves free, in order.
 #[derive(Debug, Drop)]
 pub enum Decided {
     All,
-    Fails { number: usize, bits: Vec<bool> },
+    Fails { number: usize, numbers: Vec<u32> },
 }
 
-/// Tries all valuations of each obligation in turn.
-pub fn decide(alloc: Global, claim: &Claim, list: &[Obligation]) -> Result<Decided, AllocError>
-    requires few { length claim.now.design.inputs.items + length claim.now.design.registers.items ≤ 16 }
-    ensures { IfOk result (λ decided. IsDecidedBy claim.now list.now decided) }
+/// The number of the first obligation that leaves more than 16 bits free.
+pub fn first_wide(
+    alloc: Global,
+    subject: &Subject,
+    list: &[Obligation],
+) -> Result<Option<usize>, AllocError>
+    requires { IsTriable subject.now }
+    ensures { IfOk result (λ found. MatchOption found (AllByRecursion (IsFew subject.now) list.now) (λ number. IsFirstWide subject.now list.now number)) }
 {
     for (number, obligation) in list.iter().enumerate() {
-        match first_failing(alloc, claim, obligation.which)? {
-            Some(bits) => return Ok(Decided::Fails { number, bits }),
+        if free_bits(alloc, subject, obligation.which)? > 16 {
+            return Ok(Some(number));
+        }
+    }
+    Ok(None)
+}
+
+/// How many bits an obligation leaves free.
+pub fn free_bits(alloc: Global, subject: &Subject, which: Which) -> Result<usize, AllocError>
+    requires { IsTriable subject.now }
+    ensures { IfOk result (λ count. count ≡ total (tried_widths subject.now which)) }
+{
+    let widths = free_widths(alloc, subject, which)?;
+    Ok(total(widths.as_slice()))
+}
+
+/// Tries all valuations of each obligation in turn, each of which leaves at most 16 bits free.
+pub fn decide(alloc: Global, subject: &Subject, list: &[Obligation]) -> Result<Decided, Memory>
+    requires triable { IsTriable subject.now }
+    requires few { AllByRecursion (IsFew subject.now) list.now }
+    ensures { IfOk result (λ decided. IsDecidedBy subject.now list.now decided) }
+{
+    for (number, obligation) in list.iter().enumerate() {
+        match first_failing(alloc, subject, obligation.which)? {
+            Some(numbers) => return Ok(Decided::Fails { number, numbers }),
             None => {}
         }
     }
@@ -34,87 +65,122 @@ pub fn decide(alloc: Global, claim: &Claim, list: &[Obligation]) -> Result<Decid
 }
 
 /// The least valuation at which an obligation fails.
-fn first_failing(
-    alloc: Global,
-    claim: &Claim,
-    which: Which,
-) -> Result<Option<Vec<bool>>, AllocError>
-    requires few { length claim.now.design.inputs.items + length claim.now.design.registers.items ≤ 16 }
-    ensures { IfOk result (λ found. MatchOption found (Always (passes claim.now which) (free_count claim.now which)) (λ bits. IsLeast (passes claim.now which) (free_count claim.now which) bits.items)) }
+fn first_failing(alloc: Global, subject: &Subject, which: Which) -> Result<Option<Vec<u32>>, Memory>
+    requires triable { IsTriable subject.now }
+    requires few { total (tried_widths subject.now which) ≤ 16 }
+    ensures { IfOk result (λ found. MatchOption found (Always (passes subject.now which) (tried_widths subject.now which)) (λ numbers. IsLeast (passes subject.now which) (tried_widths subject.now which) numbers.items)) }
 {
-    let count = free_bits(claim, which);
+    let widths = free_widths(alloc, subject, which)?;
+    let count = total(widths.as_slice());
     for number in 0..1u32 << count {
-        let bits = bits_of(alloc, count, number)?;
-        if !holds_at(alloc, claim, which, bits.as_slice())? {
-            return Ok(Some(bits));
+        let numbers = numbers_of(alloc, widths.as_slice(), number)?;
+        if !holds_at(alloc, subject, which, numbers.as_slice())? {
+            return Ok(Some(numbers));
         }
     }
     Ok(None)
 }
 
-/// How many bits an obligation leaves free.
-fn free_bits(claim: &Claim, which: Which) -> u32
-    requires few { length claim.now.design.inputs.items + length claim.now.design.registers.items ≤ 16 }
-    ensures few { result ≤ 16 }
-    ensures count { result ≡ free_count claim.now which }
+/// The widths in bits of what an obligation leaves free.
+pub fn free_widths(alloc: Global, subject: &Subject, which: Which) -> Result<Vec<usize>, AllocError>
+    ensures { IfOk result (λ widths. widths.items ≡ tried_widths subject.now which) }
 {
     match which {
-        Which::Cover => 1,
-        _ => {
-            let leaves = claim
-                .design
-                .inputs
-                .len()
-                .saturating_add(claim.design.registers.len());
-            leaves.saturating_sub(1) as u32
-        }
+        Which::Cover => word_widths(alloc),
+        _ => cycle_widths(alloc, subject),
     }
 }
 
-/// The bits of a number, the highest first.
-fn bits_of(alloc: Global, count: u32, number: u32) -> Result<Vec<bool>, AllocError>
-    requires few { count ≤ 16 }
-    requires below { number < 2 ^ count }
-    ensures { IfOk result (λ bits. bits.items ≡ bits_of count number) }
+fn word_widths(alloc: Global) -> Result<Vec<usize>, AllocError>
+    ensures { IfOk result (λ widths. widths.items ≡ 1 ∷ []) }
 {
-    let mut rest = number;
-    let mut bits = Vec::new(alloc);
-    for left in (0..count).rev() {
-        let top = 1u32 << left;
-        if rest < top {
-            bits.push(false)?;
-        } else {
-            bits.push(true)?;
-            rest -= top;
-        }
+    let mut widths = Vec::new(alloc);
+    widths.push(1usize)?;
+    Ok(widths)
+}
+
+/// The widths of the inputs but RESET, and of the registers.
+fn cycle_widths(alloc: Global, subject: &Subject) -> Result<Vec<usize>, AllocError>
+    ensures { IfOk result (λ widths. widths.items ≡ but_one subject.now.reset (vector_widths subject.now.design.inputs.items) (vector_widths subject.now.design.registers.items)) }
+{
+    let mut widths = Vec::new(alloc);
+    let inputs = subject.design.inputs.as_slice();
+    let (before, behind) = inputs.split_at(subject.reset.min(inputs.len()));
+    add_widths(&mut widths, before)?;
+    add_widths(&mut widths, behind_first(behind))?;
+    add_widths(&mut widths, subject.design.registers.as_slice())?;
+    Ok(widths)
+}
+
+/// The vectors behind the first.
+pub fn behind_first(vectors: &[Vector]) -> &[Vector]
+    ensures { result.now ≡ drop 1 vectors.now }
+{
+    match vectors {
+        [] => vectors,
+        [_, rest @ ..] => rest,
     }
-    Ok(bits)
+}
+
+/// How many bits vectors of these widths have.
+fn total(widths: &[usize]) -> usize
+    requires { total widths.now ≤ 16777216 }
+    ensures { result ≡ total widths.now }
+{
+    let mut bits = 0;
+    for width in widths {
+        bits += *width;
+    }
+    bits
+}
+
+/// The numbers of vectors whose bits, one behind the other, are those of one number.
+fn numbers_of(alloc: Global, widths: &[usize], number: u32) -> Result<Vec<u32>, AllocError>
+    requires { total widths.now ≤ 16 }
+    ensures { IfOk result (λ numbers. numbers.items ≡ numbers_of widths.now number) }
+{
+    let mut left = total(widths);
+    let mut rest = number;
+    let mut numbers = Vec::new(alloc);
+    for width in widths {
+        left -= *width;
+        let unit = 1u32 << left;
+        numbers.push(rest / unit)?;
+        rest %= unit;
+    }
+    Ok(numbers)
 }
 
 /// Whether an obligation holds at a valuation: a premise fails, or the goal holds.
-fn holds_at(alloc: Global, claim: &Claim, which: Which, bits: &[bool]) -> Result<bool, AllocError>
-    ensures { IfOk result (λ holds. holds ≡ passes claim.now which bits.now) }
+fn holds_at(alloc: Global, subject: &Subject, which: Which, numbers: &[u32]) -> Result<bool, Memory>
+    requires triable { IsTriable subject.now }
+    requires within { AreWithin (tried_widths subject.now which) numbers.now }
+    ensures { IfOk result (λ holds. holds ≡ passes subject.now which numbers.now) }
 {
     match which {
-        Which::Cover => Ok(fits(claim.pattern, first_bit(bits))),
+        Which::Cover => Ok(fits(subject.claim.pattern, first_number(numbers) == 1)),
         Which::Reset { goal } => {
-            let leaves = leaves_with(alloc, claim.reset, claim.active, bits)?;
-            reset_holds(alloc, claim, goal, leaves.as_slice())
+            let vectors = vectors_with(alloc, subject, subject.claim.active, numbers)?;
+            let before = leaves_before(alloc, vectors.as_slice())?;
+            let after = leaves_after(alloc, subject, vectors.as_slice(), before.as_slice())?;
+            Ok(reset_holds(&subject.claim, goal, after.as_slice()))
         }
         Which::End { goal } => {
-            let leaves = leaves_with(alloc, claim.reset, !claim.active, bits)?;
-            if !premises_hold(claim, leaves.as_slice()) {
+            let vectors = vectors_with(alloc, subject, !subject.claim.active, numbers)?;
+            let before = leaves_before(alloc, vectors.as_slice())?;
+            if !premises_hold(&subject.claim, before.as_slice()) {
                 return Ok(true);
             }
-            end_holds(alloc, claim, goal, leaves.as_slice())
+            let after = leaves_after(alloc, subject, vectors.as_slice(), before.as_slice())?;
+            Ok(end_holds(&subject.claim, goal, before.as_slice(), after.as_slice()))
         }
     }
 }
 
-fn first_bit(bits: &[bool]) -> bool
-    ensures { result ≡ slice_index_or bits.now 0 false }
+fn first_number(numbers: &[u32]) -> u32
+    ensures { result ≡ slice_index_or numbers.now 0 0 }
 {
-    if bits.is_empty() { false } else { bits[0] }
+    if numbers.is_empty() { 0 } else { numbers[0] }
 }
 
 /// Whether a pattern of one place fits a word.
@@ -130,118 +196,59 @@ fn fits(pattern: u8, word: bool) -> bool
     }
 }
 
-/// The leaves' values: the free bits, with RESET's value in its place.
-fn leaves_with(
-    alloc: Global,
-    reset: usize,
-    value: bool,
-    bits: &[bool],
-) -> Result<Vec<bool>, AllocError>
-    ensures { IfOk result (λ leaves. leaves.items ≡ with_reset reset value bits.now) }
-{
-    let mut leaves = Vec::new(alloc);
-    let (front, back) = bits.split_at(reset.min(bits.len()));
-    leaves.extend_from_slice(front)?;
-    leaves.push(value)?;
-    leaves.extend_from_slice(back)?;
-    Ok(leaves)
-}
-
 /// Whether the state shows the invariant and a boundary, and the word, which is 0, is in the class.
-fn premises_hold(claim: &Claim, leaves: &[bool]) -> bool
-    ensures { result ≡ premises claim.now leaves.now }
+fn premises_hold(claim: &Claim, before: &[bool]) -> bool
+    ensures { result ≡ premises claim.now before.now }
 {
-    eval(&claim.invariant, leaves) && eval(&claim.boundary, leaves) && fits(claim.pattern, false)
+    eval(&claim.invariant, before) && eval(&claim.boundary, before) && fits(claim.pattern, false)
 }
 
 /// Whether a goal holds after a reset cycle.
-fn reset_holds(
-    alloc: Global,
-    claim: &Claim,
-    goal: Goal,
-    leaves: &[bool],
-) -> Result<bool, AllocError>
-    ensures { IfOk result (λ holds. holds ≡ reset_passes claim.now goal leaves.now) }
+fn reset_holds(claim: &Claim, goal: Goal, after: &[bool]) -> bool
+    ensures { result ≡ reset_passes claim.now goal after.now }
 {
     match goal {
-        Goal::Invariant => holds_next(alloc, claim, &claim.invariant, leaves),
-        Goal::Boundary => holds_next(alloc, claim, &claim.boundary, leaves),
-        Goal::State { number } => Ok(start_holds(claim, claim.starts.get(number), leaves)),
+        Goal::Invariant => eval(&claim.invariant, after),
+        Goal::Boundary => eval(&claim.boundary, after),
+        Goal::State { number } => start_holds(claim.starts.get(number), after),
     }
 }
 
-fn start_holds(claim: &Claim, start: Option<&Start>, leaves: &[bool]) -> bool
-    ensures { result ≡ start_passes claim.now (option_copied start.entry) leaves.now }
+fn start_holds(start: Option<&Start>, after: &[bool]) -> bool
+    ensures { result ≡ start_passes (option_copied start.entry) after.now }
 {
     match start {
-        Some(start) => after(claim, start.leaf, leaves) == eval(&start.value, leaves),
+        Some(start) => bit_at(after, start.leaf) == eval(&start.value, after),
         None => true,
     }
 }
 
 /// Whether a goal holds at the end of the instruction.
-fn end_holds(alloc: Global, claim: &Claim, goal: Goal, leaves: &[bool]) -> Result<bool, AllocError>
-    ensures { IfOk result (λ holds. holds ≡ end_passes claim.now goal leaves.now) }
+fn end_holds(claim: &Claim, goal: Goal, before: &[bool], after: &[bool]) -> bool
+    ensures { result ≡ end_passes claim.now goal before.now after.now }
 {
     match goal {
-        Goal::Invariant => holds_next(alloc, claim, &claim.invariant, leaves),
-        Goal::Boundary => holds_next(alloc, claim, &claim.boundary, leaves),
-        Goal::State { number } => Ok(state_holds(claim, claim.states.get(number), leaves)),
+        Goal::Invariant => eval(&claim.invariant, after),
+        Goal::Boundary => eval(&claim.boundary, after),
+        Goal::State { number } => state_holds(claim.states.get(number), before, after),
     }
 }
 
-fn state_holds(claim: &Claim, state: Option<&State>, leaves: &[bool]) -> bool
-    ensures { result ≡ state_passes claim.now (option_copied state.entry) leaves.now }
+fn state_holds(state: Option<&State>, before: &[bool], after: &[bool]) -> bool
+    ensures { result ≡ state_passes (option_copied state.entry) before.now after.now }
 {
     match state {
-        Some(state) => after(claim, state.leaf, leaves) == eval(&state.set, leaves),
+        Some(state) => bit_at(after, state.leaf) == eval(&state.set, before),
         None => true,
     }
 }
 
-/// Whether an expression over registers holds after the clock edge.
-fn holds_next(
-    alloc: Global,
-    claim: &Claim,
-    logic: &Logic,
-    leaves: &[bool],
-) -> Result<bool, AllocError>
-    ensures { IfOk result (λ holds. holds ≡ logic_value logic.now (next_leaves claim.now leaves.now)) }
+/// The value of a leaf.
+fn bit_at(leaves: &[bool], leaf: usize) -> bool
+    ensures { result ≡ slice_index_or leaves.now leaf false }
 {
-    let next = leaves_after(alloc, claim, leaves)?;
-    Ok(eval(logic, next.as_slice()))
-}
-
-/// The leaves after the clock edge: the inputs as they were, and the registers' next values.
-fn leaves_after(alloc: Global, claim: &Claim, leaves: &[bool]) -> Result<Vec<bool>, AllocError>
-    ensures { IfOk result (λ next. next.items ≡ next_leaves claim.now leaves.now) }
-{
-    let mut next = Vec::new(alloc);
-    let (inputs, _) = leaves.split_at(claim.design.inputs.len().min(leaves.len()));
-    next.extend_from_slice(inputs)?;
-    push_values(&mut next, claim.design.nexts.as_slice(), leaves)?;
-    Ok(next)
-}
-
-fn push_values(next: &mut Vec<bool>, logics: &[Logic], leaves: &[bool]) -> Result<(), AllocError>
-    ensures { OnOk result (next.new.items ≡ next.old.items ++ map (λ (l : Logic). logic_value l leaves.now) logics.now) }
-{
-    for logic in logics {
-        next.push(eval(logic, leaves))?;
-    }
-    Ok(())
-}
-
-/// The value of a register's leaf after the clock edge.
-fn after(claim: &Claim, leaf: usize, leaves: &[bool]) -> bool
-    ensures { result ≡ next_leaf claim.now leaf leaves.now }
-{
-    match claim
-        .design
-        .nexts
-        .get(leaf.saturating_sub(claim.design.inputs.len()))
-    {
-        Some(logic) => eval(logic, leaves),
+    match leaves.get(leaf) {
+        Some(bit) => *bit,
         None => false,
     }
 }

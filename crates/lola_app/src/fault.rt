@@ -2,10 +2,10 @@ ghost use Rattle.std.specs.Prelude.{◌≡◌, ◌≢◌};
 ghost use Rattle.lola_app.specs.declared.fault.ReadError.TheVariants.{NotBuilt, Memory};
 ghost use Rattle.lola_app.specs.Refused.{scan_refusal, parse_refusal, size_refusal, elab_refusal};
 ghost use Rattle.lola_scan.specs.declared.token.ScanError.TheVariants as scan;
-ghost use Rattle.lola_onebit.specs.declared.fault.ElabError.TheVariants as elab;
+ghost use Rattle.lola_elab.specs.declared.fault.ElabError.TheVariants as elab;
 ghost use Rattle.tab_read.specs.declared.fault.TableFault.TheVariants as table;
 
-use lola_onebit::ElabError;
+use lola_elab::ElabError;
 use lola_parse::ParseError;
 use lola_scan::ScanError;
 use lola_width::SourceFault as SizeFault;

@@ -1,6 +1,6 @@
 ghost use Rattle.std.specs.Prelude.{◌≡◌, ◌≢◌, ◌⊎◌, ℕ, List};
 ghost use Rattle.lola_tree.specs.Tree.{SourceTree};
-ghost use Rattle.lola_onebit.specs.Small.{IsSmallSource};
+ghost use Rattle.lola_elab.specs.Small.{IsSmallSource};
 ghost use Rattle.tab_tree.specs.Table.{TableTree};
 ghost use Rattle.lola_app.specs.Accepts.{Accepts, IsSpelled, Fits};
 ghost use Rattle.lola_app.specs.Headline.{Resets, Commutes};
@@ -8,7 +8,7 @@ ghost use Rattle.lola_app.specs.Obligations.{AllHold};
 ghost use Rattle.lola_app.specs.Reply.{Outcome, no_memory};
 ghost use Rattle.lola_app.specs.Serve.{IsDecided, IsUngrammatical};
 
-use lola_onebit::next_is_a_state;
+use lola_elab::{built_is_small, next_is_a_state};
 use lola_parse::one_tree;
 use lola_scan::one_reading;
 use tab_read::one_table;
@@ -41,4 +41,5 @@ pub fn one_answer()
     one_reading();
     one_tree();
     one_table();
+    built_is_small();
 }

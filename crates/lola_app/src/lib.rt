@@ -2,7 +2,7 @@
 //!
 //! `serve` takes the words of a command, reads its files, carries it out and prints one text. Its
 //! contract says when each outcome comes, and that the status and the text are that outcome's. The
-//! parts that decide designs of one-bit registers stand here as modules, each behind the name of the
+//! parts that decide designs by tables of the small form stand here as modules, each behind the name of the
 //! crate that it will move to. Files and output are known by the meanings of `lola_port` alone: what
 //! a file system or a terminal does is not known here.
 #![tactic(auto)]
@@ -10,6 +10,7 @@
 // designs and tables of the small form
 mod claim;
 mod classes;
+mod face;
 mod fault;
 mod meaning;
 mod names;
@@ -19,9 +20,11 @@ mod scopes;
 mod states;
 
 // obligations, and deciding them
+mod cycle;
 mod decide;
 mod laws;
 mod obligation;
+mod subject;
 mod texts;
 mod trial;
 

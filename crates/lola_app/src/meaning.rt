@@ -1,14 +1,14 @@
 ghost use Rattle.std.specs.Prelude.{◌≡◌, ℕ, Bool, List, IfOk};
 ghost use Rattle.lola_tree.specs.Tree.{tree};
 ghost use Rattle.lola_tree.specs.declared.named.Ref.{Ref as Reference};
-ghost use Rattle.lola_onebit.specs.Logic.{logic_value, bit_number};
-ghost use Rattle.lola_onebit.specs.Scope.{HasReading, Reads};
-ghost use Rattle.lola_onebit.specs.Small.{IsSmallExpr};
+ghost use Rattle.lola_elab.specs.Logic.{logic_value, bit_number};
+ghost use Rattle.lola_elab.specs.Scope.{HasReading, Reads};
+ghost use Rattle.lola_elab.specs.Small.{IsSmallExpr};
 ghost use Rattle.lola_app.specs.Small.{IsNoName};
 ghost use Rattle.tab_tree.specs.Step.{no_names, table_value};
 
 use crate::fault::ReadError;
-use lola_onebit::{Logic, Scope, resolve};
+use lola_elab::{Logic, Scope, resolve};
 use lola_tree::Expr;
 use std::alloc::Global;
 

@@ -1,10 +1,10 @@
 ghost use Rattle.std.specs.Prelude.{◌≡◌, ◌↔◌, map, string_bytes, IfOk, IsTrue, MatchOption};
 ghost use Rattle.lola_tree.specs.Cycle.{IsIn};
-ghost use Rattle.lola_onebit.specs.Small.{AreDistinct};
+ghost use Rattle.lola_elab.specs.Small.{AreDistinct};
 ghost use Rattle.tab_tree.specs.Table.{state_tree, set_tree, StateTree, SetTree};
 ghost use Rattle.lola_app.specs.Naming.{IsAt};
 
-use lola_onebit::add_name;
+use lola_elab::add_name;
 use std::alloc::{AllocError, Global};
 use std::collections::BTreeSet;
 use tab_tree::{SetRow, StateRow};

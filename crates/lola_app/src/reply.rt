@@ -1,16 +1,17 @@
-ghost use Rattle.std.specs.Prelude.{◌≡◌, ◌++◌, IfOk, OnOk, codes, decimal, map};
-ghost use Rattle.lola_app.specs.Reply.{text_of, outcome_of, status_of, value_line, value_lines, line_of};
+ghost use Rattle.std.specs.Prelude.{◌≡◌, ◌+◌, ◌/◌, ◌%◌, ◌^◌, ◌++◌, ◌<◌, IfOk, OnOk, codes, decimal, map};
+ghost use Rattle.lola_app.specs.Reply.{text_of, outcome_of, status_of, hex_digit, hex_digits, value_line, value_lines, line_of};
 
 use crate::fault::SourceFault;
 use crate::refusal::{push_number, push_refusal};
 use crate::status::Status;
 use std::alloc::{AllocError, Global};
 
-/// A bit of a valuation under the name that a trace gives it, as `@q`.
+/// A number of a valuation under the name that a trace gives it, as `@q`, with its width in bits.
 #[derive(Debug, Drop)]
-pub struct NamedBit {
+pub struct NamedNumber {
     pub name: String,
-    pub value: bool,
+    pub width: usize,
+    pub value: u32,
 }
 
 /// What a command came to, with all that its printed text says.
@@ -21,10 +22,15 @@ pub enum Reply {
         obligations: usize,
         classes: usize,
     },
-    /// An obligation fails at these bits.
+    /// An obligation fails at these numbers.
     Failed {
         obligation: String,
-        bits: Vec<NamedBit>,
+        numbers: Vec<NamedNumber>,
+    },
+    /// An obligation leaves so many bits free, and only 16 can be tried.
+    TooManyBits {
+        obligation: String,
+        count: usize,
     },
     /// The words are no command.
     WrongWords,
@@ -58,6 +64,7 @@ pub fn reply_status(reply: &Reply) -> Status
     match reply {
         Reply::Accepted { .. } => Status::Ok,
         Reply::Failed { .. } => Status::No,
+        Reply::TooManyBits { .. } => Status::Limit,
         Reply::WrongWords => Status::BadWords,
         Reply::SourceRefused { .. } => Status::SourceFault,
         Reply::LongExpression { .. } => Status::Limit,
@@ -78,10 +85,14 @@ pub fn render(alloc: Global, reply: &Reply) -> Result<Vec<u8>, AllocError>
             obligations,
             classes,
         } => push_counts(&mut text, *obligations, *classes)?,
-        Reply::Failed { obligation, bits } => push_failure(
+        Reply::Failed {
+            obligation,
+            numbers,
+        } => push_failure(&mut text, obligation.as_str(), numbers.as_slice())?,
+        Reply::TooManyBits { obligation, count } => push_wide(
             &mut text,
             obligation.as_str(),
-            bits.as_slice(),
+            *count,
         )?,
         Reply::WrongWords => text.extend_from_slice(b"words\n")?,
         Reply::SourceRefused { fault } => push_refusal(&mut text, fault)?,
@@ -123,29 +134,91 @@ fn push_worded(text: &mut Vec<u8>, said: &[u8], word: &str) -> Result<(), AllocE
     Ok(())
 }
 
+/// The line of an obligation that leaves too many bits free.
+fn push_wide(text: &mut Vec<u8>, obligation: &str, count: usize) -> Result<(), AllocError>
+    ensures { OnOk result (text.new.items ≡ text.old.items ++ (codes "limit: bits " ++ (obligation.now ++ (codes " " ++ (decimal count ++ codes "\n"))))) }
+{
+    text.extend_from_slice(b"limit: bits ")?;
+    text.extend_from_slice(obligation.as_bytes())?;
+    push_number(text, b" ", count)?;
+    text.extend_from_slice(b"\n")?;
+    Ok(())
+}
+
 /// The lines of a failed obligation: its name, the valuation and the end.
-fn push_failure(text: &mut Vec<u8>, obligation: &str, bits: &[NamedBit]) -> Result<(), AllocError>
-    ensures { OnOk result (text.new.items ≡ text.old.items ++ (codes "no " ++ (obligation.now ++ (codes "\n" ++ (value_lines (map line_of bits.now) ++ codes "end\n"))))) }
+fn push_failure(
+    text: &mut Vec<u8>,
+    obligation: &str,
+    numbers: &[NamedNumber],
+) -> Result<(), AllocError>
+    ensures { OnOk result (text.new.items ≡ text.old.items ++ (codes "no " ++ (obligation.now ++ (codes "\n" ++ (value_lines (map line_of numbers.now) ++ codes "end\n"))))) }
 {
     push_worded(text, b"no ", obligation)?;
-    push_bits(text, bits)?;
+    push_values(text, numbers)?;
     text.extend_from_slice(b"end\n")?;
     Ok(())
 }
 
-fn push_bits(text: &mut Vec<u8>, bits: &[NamedBit]) -> Result<(), AllocError>
-    ensures { OnOk result (text.new.items ≡ text.old.items ++ value_lines (map line_of bits.now)) }
+fn push_values(text: &mut Vec<u8>, numbers: &[NamedNumber]) -> Result<(), AllocError>
+    ensures { OnOk result (text.new.items ≡ text.old.items ++ value_lines (map line_of numbers.now)) }
 {
-    for bit in bits {
-        push_bit(text, bit)?;
+    for named in numbers {
+        push_value(text, named)?;
     }
     Ok(())
 }
 
-fn push_bit(text: &mut Vec<u8>, bit: &NamedBit) -> Result<(), AllocError>
-    ensures { OnOk result (text.new.items ≡ text.old.items ++ value_line (line_of bit.now)) }
+fn push_value(text: &mut Vec<u8>, named: &NamedNumber) -> Result<(), AllocError>
+    ensures { OnOk result (text.new.items ≡ text.old.items ++ value_line (line_of named.now)) }
 {
-    text.extend_from_slice(bit.name.as_bytes())?;
-    text.extend_from_slice(if bit.value { b"=1\n" } else { b"=0\n" })?;
+    text.extend_from_slice(named.name.as_bytes())?;
+    text.extend_from_slice(b"=")?;
+    push_digits(text, digits_of(named.width), named.value)?;
+    text.extend_from_slice(b"\n")?;
     Ok(())
+}
+
+/// How many hexadecimal digits a number of so many bits has.
+fn digits_of(width: usize) -> usize
+    ensures { result ≡ (width + 3) / 4 }
+{
+    if width % 4 == 0 {
+        width / 4
+    } else {
+        width / 4 + 1
+    }
+}
+
+/// So many hexadecimal digits of a number, the highest first.
+fn push_digits(text: &mut Vec<u8>, count: usize, value: u32) -> Result<(), AllocError>
+    ensures { OnOk result (text.new.items ≡ text.old.items ++ hex_digits count value) }
+{
+    for left in (0..count).rev() {
+        text.push(hex_digit(digit_at(value, left)))?;
+    }
+    Ok(())
+}
+
+/// The hexadecimal digit of a number at a place, from 0 upward.
+fn digit_at(value: u32, place: usize) -> u8
+    ensures value { result ≡ value / 16 ^ place % 16 }
+    ensures below { result < 16 }
+{
+    let mut rest = value;
+    for _below in 0..place {
+        rest /= 16;
+    }
+    (rest % 16) as u8
+}
+
+/// The byte of a hexadecimal digit.
+fn hex_digit(digit: u8) -> u8
+    requires { digit < 16 }
+    ensures { result ≡ hex_digit digit }
+{
+    if digit < 10 {
+        b'0' + digit
+    } else {
+        b'A' - 10 + digit
+    }
 }

@@ -1,6 +1,6 @@
 ghost use Rattle.std.specs.Prelude.{◌≡◌, ℕ, List, map, string_bytes, IfOk, OnOk};
 ghost use Rattle.std.specs.List.{AllByRecursion};
-ghost use Rattle.lola_onebit.specs.Scope.{HasReading};
+ghost use Rattle.lola_elab.specs.Scope.{HasReading};
 ghost use Rattle.tab_tree.specs.Table.{set_tree};
 ghost use Rattle.lola_app.specs.declared.states.Shown.{Shown as Showing};
 ghost use Rattle.lola_app.specs.Claiming.{AreEach};
@@ -13,7 +13,7 @@ use crate::fault::ReadError;
 use crate::meaning::{constant, meaning};
 use crate::names::are_distinct_rows;
 use crate::states::Shown;
-use lola_onebit::{Logic, Scope};
+use lola_elab::{Logic, Scope};
 use std::alloc::Global;
 use tab_tree::SetRow;
 

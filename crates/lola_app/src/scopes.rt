@@ -1,19 +1,20 @@
 ghost use Rattle.std.specs.Prelude.{◌≡◌, ◌+◌, ◌≤◌, [], ◌∷◌, ◌++◌, length, map, string_bytes, IfOk, OnOk};
-ghost use Rattle.lola_onebit.specs.Leaves.{leaves_from, shown};
+ghost use Rattle.lola_elab.specs.Leaves.{leaves_from, shown};
 ghost use Rattle.lola_app.specs.Scoping.{HasRegisters, HasClassNames, state_entries};
 
+use crate::face::Face;
 use crate::states::Shown;
-use lola_onebit::{Design, Entry, Reading, Scope};
+use lola_elab::{Entry, Reading, Scope};
 use std::alloc::{AllocError, Global};
 
 /// The registers behind an `@`.
-pub fn register_scope(alloc: Global, design: &Design) -> Result<Scope, AllocError>
-    requires few { length design.now.inputs.items + length design.now.registers.items ≤ 16 }
-    ensures { IfOk result (λ scope. HasRegisters (length design.now.inputs.items) (map string_bytes design.now.registers.items) scope) }
+pub fn register_scope(alloc: Global, face: &Face) -> Result<Scope, AllocError>
+    requires few { length face.now.inputs.items + length face.now.registers.items ≤ 65536 }
+    ensures { IfOk result (λ scope. HasRegisters (length face.now.inputs.items) (map string_bytes face.now.registers.items) scope) }
 {
-    let inputs = design.inputs.as_slice().len();
+    let inputs = face.inputs.as_slice().len();
     let mut source = Vec::new(alloc);
-    for (place, name) in design.registers.iter().enumerate() {
+    for (place, name) in face.registers.iter().enumerate() {
         let reading = Reading::Leaf {
             number: inputs + place,
         };

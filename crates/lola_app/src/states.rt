@@ -2,15 +2,16 @@ ghost use Rattle.std.specs.Prelude.{◌≡◌, ◌↔◌, ◌+◌, ◌≤◌, le
 ghost use Rattle.std.specs.List.{AllByRecursion};
 ghost use Rattle.lola_tree.specs.Tree.{tree};
 ghost use Rattle.tab_tree.specs.Table.{state_tree};
-ghost use Rattle.lola_onebit.specs.Small.{IsBit};
-ghost use Rattle.lola_app.specs.Claiming.{AreEach, face_of};
+ghost use Rattle.lola_elab.specs.Small.{IsBit};
+ghost use Rattle.lola_app.specs.Claiming.{AreEach};
 ghost use Rattle.lola_app.specs.Shown.{IsShown, IsSourceName};
 ghost use Rattle.lola_app.specs.Small.{is_digit, are_digits, is_taken, ShowsRegister, IsSmallState, AreSmallStates};
+ghost use Rattle.lola_app.specs.Vectors.{interface_in};
 
+use crate::face::Face;
 use crate::fault::ReadError;
 use crate::names::{are_distinct_states, place_of};
 use lola_bits::Name;
-use lola_onebit::Design;
 use lola_tree::{Count, Expr, Shape};
 use std::alloc::Global;
 use tab_tree::StateRow;
@@ -27,30 +28,26 @@ pub struct Shown {
 
 /// The states of a table in order. NotBuilt where there are more than 64, two have one name, or one
 /// isn't a one-bit state under a name that a table may declare, which shows one register.
-pub fn shown_states(
-    alloc: Global,
-    rows: &[StateRow],
-    design: &Design,
-) -> Result<Vec<Shown>, ReadError>
-    requires few { length design.now.inputs.items + length design.now.registers.items ≤ 16 }
-    ensures small { IfOk result (λ all. AreSmallStates (face_of design.now).registers (map state_tree rows.now)) }
-    ensures ok { IfOk result (λ all. AreEach (IsShown (face_of design.now)) (map state_tree rows.now) all.items) }
-    ensures none { result ≡ Err ReadError.NotBuilt → AreSmallStates (face_of design.now).registers (map state_tree rows.now) → ⊥ }
+pub fn shown_states(alloc: Global, rows: &[StateRow], face: &Face) -> Result<Vec<Shown>, ReadError>
+    requires few { length face.now.inputs.items + length face.now.registers.items ≤ 65536 }
+    ensures small { IfOk result (λ all. AreSmallStates (interface_in face.now).registers (map state_tree rows.now)) }
+    ensures ok { IfOk result (λ all. AreEach (IsShown (interface_in face.now)) (map state_tree rows.now) all.items) }
+    ensures none { result ≡ Err ReadError.NotBuilt → AreSmallStates (interface_in face.now).registers (map state_tree rows.now) → ⊥ }
 {
     if rows.len() > STATE_LIMIT || !are_distinct_states(alloc, rows)? {
         return Err(ReadError::NotBuilt);
     }
-    each_shown(alloc, rows, design)
+    each_shown(alloc, rows, face)
 }
 
-fn each_shown(alloc: Global, rows: &[StateRow], design: &Design) -> Result<Vec<Shown>, ReadError>
-    requires few { length design.now.inputs.items + length design.now.registers.items ≤ 16 }
-    ensures ok { IfOk result (λ all. AreEach (IsShown (face_of design.now)) (map state_tree rows.now) all.items) }
-    ensures none { result ≡ Err ReadError.NotBuilt → AllByRecursion (IsSmallState (face_of design.now).registers) (map state_tree rows.now) → ⊥ }
+fn each_shown(alloc: Global, rows: &[StateRow], face: &Face) -> Result<Vec<Shown>, ReadError>
+    requires few { length face.now.inputs.items + length face.now.registers.items ≤ 65536 }
+    ensures ok { IfOk result (λ all. AreEach (IsShown (interface_in face.now)) (map state_tree rows.now) all.items) }
+    ensures none { result ≡ Err ReadError.NotBuilt → AllByRecursion (IsSmallState (interface_in face.now).registers) (map state_tree rows.now) → ⊥ }
 {
     let mut all = Vec::new(alloc);
     for row in rows {
-        match shown_state(alloc, row, design) {
+        match shown_state(alloc, row, face) {
             Ok(shown) => all.push(shown)?,
             Err(fault) => return Err(fault),
         }
@@ -58,10 +55,10 @@ fn each_shown(alloc: Global, rows: &[StateRow], design: &Design) -> Result<Vec<S
     Ok(all)
 }
 
-fn shown_state(alloc: Global, row: &StateRow, design: &Design) -> Result<Shown, ReadError>
-    requires few { length design.now.inputs.items + length design.now.registers.items ≤ 16 }
-    ensures ok { IfOk result (λ shown. IsShown (face_of design.now) (state_tree row.now) shown) }
-    ensures none { result ≡ Err ReadError.NotBuilt → IsSmallState (face_of design.now).registers (state_tree row.now) → ⊥ }
+fn shown_state(alloc: Global, row: &StateRow, face: &Face) -> Result<Shown, ReadError>
+    requires few { length face.now.inputs.items + length face.now.registers.items ≤ 65536 }
+    ensures ok { IfOk result (λ shown. IsShown (interface_in face.now) (state_tree row.now) shown) }
+    ensures none { result ≡ Err ReadError.NotBuilt → IsSmallState (interface_in face.now).registers (state_tree row.now) → ⊥ }
 {
     if is_taken(row.name.text()) || !is_bit(&row.shape) {
         return Err(ReadError::NotBuilt);
@@ -69,12 +66,12 @@ fn shown_state(alloc: Global, row: &StateRow, design: &Design) -> Result<Shown, 
     let Some(register) = source_name(&row.shown) else {
         return Err(ReadError::NotBuilt);
     };
-    let Some(place) = place_of(design.registers.as_slice(), register.text()) else {
+    let Some(place) = place_of(face.registers.as_slice(), register.text()) else {
         return Err(ReadError::NotBuilt);
     };
     Ok(Shown {
         name: String::from_str(alloc, row.name.text())?,
-        leaf: design.inputs.as_slice().len() + place,
+        leaf: face.inputs.as_slice().len() + place,
     })
 }
 

@@ -4,19 +4,21 @@ ghost use Rattle.lola_parse.specs.Symbols.{AreIn};
 ghost use Rattle.lola_tree.specs.Tree.{source_tree};
 ghost use Rattle.tab_tree.specs.Table.{TableTree};
 ghost use Rattle.lola_app.specs.Accepts.{IsSpelled};
-ghost use Rattle.lola_app.specs.Claiming.{face_of};
 ghost use Rattle.lola_app.specs.Made.{IsSourceOf, IsDesignOf, IsTableOf};
 ghost use Rattle.lola_app.specs.Refused.{HasRefusal, HasLong};
 ghost use Rattle.lola_app.specs.Reply.{outcome_of};
 ghost use Rattle.lola_app.specs.Serve.{IsDecided, text_limit};
 ghost use Rattle.lola_app.specs.Small.{IsSmallTable};
+ghost use Rattle.lola_app.specs.Vectors.{interface_in};
 
 use crate::claim::{Claim, fit};
+use crate::face::{Face, face_of};
 use crate::fault::{ReadError, SourceError};
 use crate::laws::headline;
 use crate::reply::Reply;
+use crate::subject::subject_of;
 use crate::trial::try_claim;
-use lola_onebit::{Design, one_cycle, read_design};
+use lola_elab::{Design, built_is_small, next_is_a_state, one_cycle, read_design};
 use lola_parse::{parse, tokens_lie_within};
 use lola_scan::{ScanError, Token, one_reading, scan};
 use lola_tree::Source;
@@ -36,20 +38,29 @@ pub fn decide_texts(alloc: Global, source: &[u8], table: &[u8]) -> Reply
         Err(SourceError::Long { at }) => return Reply::LongExpression { at },
         Err(SourceError::Memory) => return Reply::NoMemory,
     };
-    let claim = match table_claim(alloc, table, design) {
+    let face = match face_of(alloc, &design) {
+        Ok(face) => face,
+        Err(_) => return Reply::NoMemory,
+    };
+    let claim = match table_claim(alloc, table, face) {
         Ok(claim) => claim,
         Err(ReadError::NotBuilt) => return Reply::TableNotBuilt,
         Err(ReadError::Memory) => return Reply::NoMemory,
     };
+    let subject = match subject_of(alloc, design, claim) {
+        Ok(subject) => subject,
+        Err(_) => return Reply::NoMemory,
+    };
     one_cycle();
+    next_is_a_state();
     headline();
-    match try_claim(alloc, &claim) {
+    match try_claim(alloc, &subject) {
         Ok(reply) => reply,
         Err(_) => Reply::NoMemory,
     }
 }
 
-/// The one-bit design that a text spells, or why it gives none: the first fault of the text comes
+/// The design that a text spells, or why it gives none: the first fault of the text comes
 /// before those of its tokens, these before those of names, widths and assignments, and these before
 /// the forms that aren't built.
 fn source_design(alloc: Global, text: &[u8]) -> Result<Design, SourceError>
@@ -62,6 +73,7 @@ fn source_design(alloc: Global, text: &[u8]) -> Result<Design, SourceError>
         Ok(source) => source,
         Err(error) => return Err(error),
     };
+    built_is_small();
     match sizes(alloc, &source) {
         Ok(()) => {}
         Err(fault) => return Err(SourceError::from(fault)),
@@ -89,13 +101,13 @@ fn spelled_source(alloc: Global, text: &[u8]) -> Result<Source, SourceError>
     }
 }
 
-/// The claim about a design that a text spells.
-fn table_claim(alloc: Global, text: &[u8], design: Design) -> Result<Claim, ReadError>
+/// The claim that a text spells, about what it sees of a design.
+fn table_claim(alloc: Global, text: &[u8], face: Face) -> Result<Claim, ReadError>
     requires short { length text.now ≤ text_limit }
-    requires few { length design.inputs.items + length design.registers.items ≤ 16 }
+    requires few { length face.inputs.items + length face.registers.items ≤ 65536 }
     ensures ok { IfOk result (λ claim. IsTableOf text.now claim) }
-    ensures design { IfOk result (λ claim. claim.design ≡ design) }
-    ensures none { result ≡ Err ReadError.NotBuilt → (T : TableTree) → IsSpelled text.now T → IsSmallTable (face_of design) T → ⊥ }
+    ensures face { IfOk result (λ claim. claim.face ≡ face) }
+    ensures none { result ≡ Err ReadError.NotBuilt → (T : TableTree) → IsSpelled text.now T → IsSmallTable (interface_in face) T → ⊥ }
 {
     one_reading();
     one_table();
@@ -107,7 +119,7 @@ fn table_claim(alloc: Global, text: &[u8], design: Design) -> Result<Claim, Read
         Ok(table) => table,
         Err(fault) => return Err(ReadError::from(fault)),
     };
-    fit(alloc, &table, design)
+    fit(alloc, &table, face)
 }
 
 /// The tokens of a text, which lie within it, or its first fault.

@@ -1,64 +1,82 @@
-ghost use Rattle.std.specs.Prelude.{◌≡◌, ◌+◌, ◌≤◌, [], ◌∷◌, ◌++◌, map, length, drop, string_bytes, codes, List, ℕ, IfOk, OnOk};
-ghost use Rattle.lola_app.specs.Reply.{outcome_of, line_of};
-ghost use Rattle.lola_app.specs.Deciding.{IsFirstFailing};
-ghost use Rattle.lola_app.specs.Tried.{free_leaves, printed_names, bit_lines, IsTried};
+ghost use Rattle.std.specs.Prelude.{◌≡◌, [], ◌∷◌, ◌++◌, map, string_bytes, codes, List, ℕ, IfOk, OnOk};
+ghost use Rattle.lola_elab.specs.Elaborated.{vector_names};
+ghost use Rattle.lola_app.specs.Reply.{outcome_of, line_of, lines_of};
+ghost use Rattle.lola_app.specs.Deciding.{IsFirstWide, IsFirstFailing};
+ghost use Rattle.lola_app.specs.Trial.{tried_widths, IsTriable};
+ghost use Rattle.lola_app.specs.Tried.{free_leaves, printed_names, IsTried};
 
-use crate::claim::Claim;
-use crate::decide::{Decided, decide};
+use crate::decide::{Decided, behind_first, decide, first_wide, free_bits, free_widths};
 use crate::obligation::{Obligation, Which, obligations};
-use crate::reply::{NamedBit, Reply};
+use crate::reply::{NamedNumber, Reply};
+use crate::subject::Subject;
+use lola_bits::Memory;
+use lola_elab::Vector;
 use std::alloc::{AllocError, Global};
 
 /// What trying all cases of a claim comes to: all its obligations hold, or the first that fails with
-/// its least valuation.
-pub fn try_claim(alloc: Global, claim: &Claim) -> Result<Reply, AllocError>
-    requires few { length claim.now.design.inputs.items + length claim.now.design.registers.items ≤ 16 }
-    ensures { IfOk result (λ reply. IsTried claim.now (outcome_of reply)) }
+/// its least valuation, or the first that leaves too many bits free.
+pub fn try_claim(alloc: Global, subject: &Subject) -> Result<Reply, Memory>
+    requires { IsTriable subject.now }
+    ensures { IfOk result (λ reply. IsTried subject.now (outcome_of reply)) }
 {
-    let list = obligations(alloc, claim)?;
-    match decide(alloc, claim, list.as_slice())? {
+    let list = obligations(alloc, &subject.claim)?;
+    if let Some(number) = first_wide(alloc, subject, list.as_slice())? {
+        let obligation = &list[number];
+        return Ok(Reply::TooManyBits {
+            obligation: obligation.name.clone()?,
+            count: free_bits(alloc, subject, obligation.which)?,
+        });
+    }
+    match decide(alloc, subject, list.as_slice())? {
         Decided::All => Ok(Reply::Accepted {
             obligations: list.len(),
             classes: 1,
         }),
-        Decided::Fails { number, bits } => {
+        Decided::Fails { number, numbers } => {
             let obligation = &list[number];
             Ok(Reply::Failed {
                 obligation: obligation.name.clone()?,
-                bits: named_bits(alloc, claim, obligation.which, bits.as_slice())?,
+                numbers: named_numbers(alloc, subject, obligation.which, numbers.as_slice())?,
             })
         }
     }
 }
 
-/// The free bits of an obligation under their printed names.
-fn named_bits(
+/// The numbers of what an obligation leaves free, under their printed names.
+fn named_numbers(
     alloc: Global,
-    claim: &Claim,
+    subject: &Subject,
     which: Which,
-    bits: &[bool],
-) -> Result<Vec<NamedBit>, AllocError>
-    ensures { IfOk result (λ named. map line_of named.items ≡ bit_lines (printed_names claim.now which) bits.now) }
+    numbers: &[u32],
+) -> Result<Vec<NamedNumber>, AllocError>
+    ensures { IfOk result (λ named. map line_of named.items ≡ lines_of (printed_names subject.now which) (tried_widths subject.now which) numbers.now) }
 {
     let names = match which {
         Which::Cover => word_name(alloc)?,
-        _ => cycle_names(alloc, claim)?,
+        _ => cycle_names(alloc, subject)?,
     };
-    pair(alloc, names.as_slice(), bits)
+    let widths = free_widths(alloc, subject, which)?;
+    together(alloc, names.as_slice(), widths.as_slice(), numbers)
 }
 
-/// Names with their bits, as far as there are both.
-fn pair(alloc: Global, names: &[String], bits: &[bool]) -> Result<Vec<NamedBit>, AllocError>
-    ensures { IfOk result (λ named. map line_of named.items ≡ bit_lines (map string_bytes names.now) bits.now) }
+/// Names with their widths and numbers, as far as there are all three.
+fn together(
+    alloc: Global,
+    names: &[String],
+    widths: &[usize],
+    numbers: &[u32],
+) -> Result<Vec<NamedNumber>, AllocError>
+    ensures { IfOk result (λ named. map line_of named.items ≡ lines_of (map string_bytes names.now) widths.now numbers.now) }
 {
     let mut named = Vec::new(alloc);
-    for (number, bit) in bits.iter().enumerate() {
-        match names.get(number) {
-            Some(name) => named.push(NamedBit {
+    for (place, name) in names.iter().enumerate() {
+        match (widths.get(place), numbers.get(place)) {
+            (Some(width), Some(value)) => named.push(NamedNumber {
                 name: name.clone()?,
-                value: *bit,
+                width: *width,
+                value: *value,
             })?,
-            None => return Ok(named),
+            _ => return Ok(named),
         }
     }
     Ok(named)
@@ -74,33 +92,23 @@ fn word_name(alloc: Global) -> Result<Vec<String>, AllocError>
 }
 
 /// The names of the inputs but RESET, and of the registers, each behind an `@`.
-fn cycle_names(alloc: Global, claim: &Claim) -> Result<Vec<String>, AllocError>
-    ensures { IfOk result (λ names. map string_bytes names.items ≡ map (λ (name : List ℕ). codes "@" ++ name) (free_leaves claim.now)) }
+fn cycle_names(alloc: Global, subject: &Subject) -> Result<Vec<String>, AllocError>
+    ensures { IfOk result (λ names. map string_bytes names.items ≡ map (λ (name : List ℕ). codes "@" ++ name) (free_leaves subject.now)) }
 {
     let mut names = Vec::new(alloc);
-    let inputs = claim.design.inputs.as_slice();
-    let (before, behind) = inputs.split_at(claim.reset.min(inputs.len()));
+    let inputs = subject.design.inputs.as_slice();
+    let (before, behind) = inputs.split_at(subject.reset.min(inputs.len()));
     add_names(alloc, &mut names, before)?;
     add_names(alloc, &mut names, behind_first(behind))?;
-    add_names(alloc, &mut names, claim.design.registers.as_slice())?;
+    add_names(alloc, &mut names, subject.design.registers.as_slice())?;
     Ok(names)
 }
 
-/// The names behind the first.
-fn behind_first(names: &[String]) -> &[String]
-    ensures { result.now ≡ drop 1 names.now }
+fn add_names(alloc: Global, names: &mut Vec<String>, more: &[Vector]) -> Result<(), AllocError>
+    ensures { OnOk result (map string_bytes names.new.items ≡ map string_bytes names.old.items ++ map (λ (name : List ℕ). codes "@" ++ name) (vector_names more.now)) }
 {
-    match names {
-        [] => names,
-        [_, rest @ ..] => rest,
-    }
-}
-
-fn add_names(alloc: Global, names: &mut Vec<String>, more: &[String]) -> Result<(), AllocError>
-    ensures { OnOk result (map string_bytes names.new.items ≡ map string_bytes names.old.items ++ map (λ (name : List ℕ). codes "@" ++ name) (map string_bytes more.now)) }
-{
-    for name in more {
-        let name = name.as_str();
+    for vector in more {
+        let name = vector.name.as_str();
         names.push(format!(in alloc; "@{name}")?)?;
     }
     Ok(())

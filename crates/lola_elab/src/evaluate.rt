@@ -12,7 +12,7 @@ use std::alloc::Global;
 
 /// The bits of a number in a width, the lowest first.
 #[tactic(auto, using(crate::proofs::Evaluates::all_bits, crate::proofs::Evaluates::one_bit_more))]
-fn number_bits(alloc: Global, width: usize, value: u128) -> Result<Seq<bool>, Memory>
+pub fn number_bits(alloc: Global, width: usize, value: u128) -> Result<Seq<bool>, Memory>
     requires { value < 2 ^ width }
     ensures { IfOk result (λ bits. IsNumber bits width value) }
 {

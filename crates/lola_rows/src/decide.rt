@@ -87,7 +87,7 @@ fn a_design_outside_the_small_form_is_not_built(rt: HostRuntime) -> Result<(), F
     let table =
         b"TABLE T1 FOR Tog; ROLES RESET rst = 1; STATE INVARIANT 1; BOUNDARY 1; START CLASS go \"-\" PHASE; END T1.";
     let sources: [&[u8]; 3] = [
-        b"MODULE Tog(IN rst: BYTE); END Tog.",
+        b"MODULE Tog(IN clk, rst: BIT); REG (clk) R: [2] BYTE; BEGIN R[rst] := 1'8 END Tog.",
         b"MODULE Tog(IN rst: BIT); VAR x: BIT; BEGIN x := rst END Tog.",
         b"MODULE Tog(IN rst: BIT; OUT o: BIT); BEGIN o := o END Tog.",
     ];

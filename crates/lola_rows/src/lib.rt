@@ -11,4 +11,6 @@ mod outside;
 #[cfg(test)]
 mod refusals;
 #[cfg(test)]
+mod vectors;
+#[cfg(test)]
 mod verdicts;

@@ -1,15 +1,16 @@
 use Rattle.std.proofs.Common.{◌≡◌, [], ◌∷◌, refl, sym, ap, subst, ◌∙◌, map, length, string_bytes}
 use Rattle.tab_tree.specs.Table.{table_tree, class_tree, phase_tree, state_tree, set_tree}
 use Rattle.std.specs.List.{AllByRecursion}
-use Rattle.lola_onebit.specs.Scope.{HasReading}
+use Rattle.lola_elab.specs.Scope.{HasReading}
 use Rattle.lola_app.specs.declared.states.Shown.{Shown}
-use Rattle.lola_app.specs.Claiming.{face_of, AreEach}
+use Rattle.lola_app.specs.Claiming.{AreEach}
 use Rattle.lola_app.specs.Classes.{IsPlainPhase, IsTaken}
 use Rattle.lola_app.specs.Fitting.{IsSetState}
 use Rattle.lola_app.specs.Scoping.{HasRegisters, HasClassNames}
 use Rattle.lola_app.specs.Shown.{IsShown, AreRoles}
 use Rattle.lola_app.specs.Small.{IsNoName, IsSmallRow, AreSmallRows, AreSmallStates}
 use Rattle.lola_app.specs.Starts.{IsStartRow}
+use Rattle.lola_app.specs.Vectors.{interface_in}
 use Rattle.lola_app.proofs.ByRow.{same_fault}
 use Rattle.lola_app.proofs.Fits.{claim_is, class_small, one_place_of, plain_of, registers_read, sets_read, starts_read}
 use Rattle.lola_app.proofs.Leaves.{length_map}
@@ -20,37 +21,37 @@ returns-in_default-only_place-clause-none c = λ e small.
     let T = table_tree c.args.table.now in
     let C = class_tree c.in-Some.class.now in
     let only : T.classes ≡ C ∷ [] = ap (map class_tree) (sym c.items-2.ensures) ∙ c.in-Some.ensures in
-    let place = one_place_of C.pattern (class_small (face_of c.args.design) T C only small).one_place in
+    let place = one_place_of C.pattern (class_small (interface_in c.args.face) T C only small).one_place in
     c.in_default-only_place.ensures place.0 (c.items-3.ensures ∙ place.1)
 
 pub returns-in_default-taken_leaf-clause-none : goal.returns-in_default-taken_leaf-clause-none
 returns-in_default-taken_leaf-clause-none c = λ e small.
     let T = table_tree c.args.table.now in
     let C = class_tree c.in-Some.class.now in
-    let face = face_of c.args.design in
+    let face = interface_in c.args.face in
     let only : T.classes ≡ C ∷ [] = ap (map class_tree) (sym c.items-2.ensures) ∙ c.in-Some.ensures in
     let roles : AreRoles face.inputs T c.in-Ok.roles = subst (λ xs. AreRoles (map string_bytes xs) T c.in-Ok.roles) c.as_slice.ensures.value c.in-Ok.ensures.ok in
     c.in_default-taken_leaf.ensures (subst (λ ps. IsPlainPhase (map phase_tree ps) c.in-Ok.roles.loaded) (sym c.items-4.ensures) (plain_of face.inputs T C c.in-Ok.roles roles (class_small face T C only small)))
 
 pub returns-in-Err-meaning-clause-none : goal.returns-in-Err-meaning-clause-none
 returns-in-Err-meaning-clause-none c = λ e small.
-    let face = face_of c.args.design in
+    let face = interface_in c.args.face in
     let T = table_tree c.args.table.now in
     let has : HasRegisters (length face.inputs) face.registers c.in_ok-registers.registers =
-    subst (λ n. HasRegisters n face.registers c.in_ok-registers.registers) (sym (length_map string_bytes c.args.design.inputs.items)) c.in_ok-registers.ensures in
+    subst (λ n. HasRegisters n face.registers c.in_ok-registers.registers) (sym (length_map string_bytes c.args.face.inputs.items)) c.in_ok-registers.ensures in
     c.in-Err-meaning.ensures.none (same_fault _ _ e) (registers_read face c.in_ok-registers.registers T.invariant has small.invariant)
 
 pub returns-in-Err-meaning-2-clause-none : goal.returns-in-Err-meaning-2-clause-none
 returns-in-Err-meaning-2-clause-none c = λ e small.
-    let face = face_of c.args.design in
+    let face = interface_in c.args.face in
     let T = table_tree c.args.table.now in
     let has : HasRegisters (length face.inputs) face.registers c.in_ok-registers.registers =
-    subst (λ n. HasRegisters n face.registers c.in_ok-registers.registers) (sym (length_map string_bytes c.args.design.inputs.items)) c.in_ok-registers.ensures in
+    subst (λ n. HasRegisters n face.registers c.in_ok-registers.registers) (sym (length_map string_bytes c.args.face.inputs.items)) c.in_ok-registers.ensures in
     c.in-Err-meaning-2.ensures.none (same_fault _ _ e) (registers_read face c.in_ok-registers.registers T.boundary has small.boundary)
 
 pub returns-in-Err-check_sets-clause-none : goal.returns-in-Err-check_sets-clause-none
 returns-in-Err-check_sets-clause-none c = λ e small.
-    let face = face_of c.args.design in
+    let face = interface_in c.args.face in
     let T = table_tree c.args.table.now in
     let C = class_tree c.in-Some.class.now in
     let only : T.classes ≡ C ∷ [] = ap (map class_tree) (sym c.items-2.ensures) ∙ c.in-Some.ensures in
@@ -67,7 +68,7 @@ returns-in-Err-check_sets-clause-none c = λ e small.
 
 pub returns-in-Err-claimed_states-clause-none : goal.returns-in-Err-claimed_states-clause-none
 returns-in-Err-claimed_states-clause-none c = λ e small.
-    let face = face_of c.args.design in
+    let face = interface_in c.args.face in
     let T = table_tree c.args.table.now in
     let C = class_tree c.in-Some.class.now in
     let only : T.classes ≡ C ∷ [] = ap (map class_tree) (sym c.items-2.ensures) ∙ c.in-Some.ensures in
@@ -83,7 +84,7 @@ returns-in-Err-claimed_states-clause-none c = λ e small.
 
 pub returns-in-Err-starts_of-clause-none : goal.returns-in-Err-starts_of-clause-none
 returns-in-Err-starts_of-clause-none c = λ e small.
-    let face = face_of c.args.design in
+    let face = interface_in c.args.face in
     let T = table_tree c.args.table.now in
     let states = c.in-Ok-shown_states.shown.items in
     let each : AreEach (IsShown face) T.states states = subst (λ xs. AreEach (IsShown face) (map state_tree xs) states) c.items.ensures c.in-Ok-shown_states.ensures.ok in
@@ -94,7 +95,7 @@ returns-in-Err-starts_of-clause-none c = λ e small.
 
 pub returns-clause-ok : goal.returns-clause-ok
 returns-clause-ok c =
-    let face = face_of c.args.design in
+    let face = interface_in c.args.face in
     let T = table_tree c.args.table.now in
     let C = class_tree c.in-Some.class.now in
     let states = c.in-Ok-shown_states.shown.items in
@@ -109,7 +110,7 @@ returns-clause-ok c =
       one_class = ap (map class_tree) (sym c.items-2.ensures) ∙ c.in-Some.ensures;
       one_place = sym c.items-3.ensures ∙ c.in-Some-only_place.ensures;
       takes = subst (λ ps. IsTaken (map phase_tree ps) c.in-Ok.roles.loaded c.in-Some-taken_leaf.taken) c.items-4.ensures c.in-Some-taken_leaf.ensures;
-      register_names = subst (λ n. HasRegisters n face.registers c.in_ok-registers.registers) (sym (length_map string_bytes c.args.design.inputs.items)) c.in_ok-registers.ensures;
+      register_names = subst (λ n. HasRegisters n face.registers c.in_ok-registers.registers) (sym (length_map string_bytes c.args.face.inputs.items)) c.in_ok-registers.ensures;
       class_has = subst (λ xs. HasClassNames c.in-Some-taken_leaf.taken xs c.in_ok-names.names) c.as_slice-2.ensures.value c.in_ok-names.ensures;
       small_invariant = c.in-Ok-meaning.ensures.small;
       small_boundary = c.in-Ok-meaning-2.ensures.small;

@@ -7,5 +7,5 @@ returns-in-Some c = record {
   obligation = c.index-list-number.result;
   there = slice_get_read c.args.list.now _ c.loop-number.number c.index-list-number.result refl c.loop-number-test.true c.index-list-number.is;
   earlier = c.loop-number.invariant;
-  least = rw c.in-Some.is at c.in_ok-bits.ensures;
+  least = rw c.in-Some.is at c.in_ok-numbers.ensures;
 }

@@ -4,4 +4,4 @@ use Rattle.lola_app.specs.Deciding.{PassesAlways}
 use Rattle.lola_app.proofs.decide.decide.Given as goal
 
 abbrev pub invariant-loop-number : goal.invariant-loop-number
-invariant-loop-number l = AllByRecursion (PassesAlways l.claim) (take l.number l.list)
+invariant-loop-number l = AllByRecursion (PassesAlways l.subject) (take l.number l.list)

@@ -2,10 +2,10 @@ use Rattle.std.proofs.Common.{◌≡◌, ℕ, Bool, List}
 use Rattle.std.proofs.lemmas.Result.{IfOk-weaker}
 use Rattle.lola_tree.specs.declared.named.Ref.{Ref}
 use Rattle.lola_tree.specs.Tree.{tree}
-use Rattle.lola_onebit.specs.declared.scope.Scope.{Scope}
-use Rattle.lola_onebit.specs.Logic.{logic_value, bit_number}
-use Rattle.lola_onebit.specs.Scope.{HasReading, Reads}
-use Rattle.lola_onebit.specs.Small.{IsSmallExpr}
+use Rattle.lola_elab.specs.declared.scope.Scope.{Scope}
+use Rattle.lola_elab.specs.Logic.{logic_value, bit_number}
+use Rattle.lola_elab.specs.Scope.{HasReading, Reads}
+use Rattle.lola_elab.specs.Small.{IsSmallExpr}
 use Rattle.tab_tree.specs.Step.{no_names, table_value}
 use Rattle.lola_app.specs.Small.{IsNoName}
 use Rattle.lola_app.proofs.ScopeMeans.{small_map, no_reading, no_reads}

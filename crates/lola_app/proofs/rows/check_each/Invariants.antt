@@ -1,6 +1,6 @@
 use Rattle.std.proofs.Common.{take, map, string_bytes}
 use Rattle.std.specs.List.{AllByRecursion}
-use Rattle.lola_onebit.specs.Scope.{HasReading}
+use Rattle.lola_elab.specs.Scope.{HasReading}
 use Rattle.tab_tree.specs.Table.{set_tree}
 use Rattle.lola_app.specs.declared.states.Shown.{Shown}
 use Rattle.lola_app.specs.Small.{IsSmallRow}

@@ -3,8 +3,8 @@ use Rattle.std.specs.Prelude.{bytes_eq, slice_index_or}
 use Rattle.std.proofs.lemmas.Result.{IfOk-weaker}
 use Rattle.lola_tree.specs.declared.named.Ref.{Ref}
 use Rattle.lola_tree.specs.Tree.{tree}
-use Rattle.lola_onebit.specs.Logic.{logic_value, bit_number}
-use Rattle.lola_onebit.specs.Scope.{HasReading, Reads}
+use Rattle.lola_elab.specs.Logic.{logic_value, bit_number}
+use Rattle.lola_elab.specs.Scope.{HasReading, Reads}
 use Rattle.tab_tree.specs.Table.{set_tree}
 use Rattle.tab_tree.specs.Step.{set_value, table_value}
 use Rattle.lola_app.specs.Small.{IsSmallRow}

@@ -1,5 +1,5 @@
 use Rattle.std.proofs.Common.{◌≡◌, ◌++◌, drop}
-use Rattle.lola_onebit.specs.Leaves.{shown}
+use Rattle.lola_elab.specs.Leaves.{shown}
 use Rattle.lola_app.specs.Scoping.{state_entries}
 use Rattle.lola_app.proofs.scopes.enter_states.Given as goal
 

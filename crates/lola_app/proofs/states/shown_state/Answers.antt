@@ -13,16 +13,16 @@ pub overflow_add-result : goal.overflow_add-result
 overflow_add-result c =
     omega (
       arith,
-      place_within string_bytes c.args.design.now.registers.items c.in-Some-place_of.place c.text-2.result.now
+      place_within string_bytes c.args.face.now.registers.items c.in-Some-place_of.place c.text-2.result.now
           (subst (λ xs. IsAt (map string_bytes xs) c.in-Some-place_of.place c.text-2.result.now) c.as_slice.ensures.value c.in-Some-place_of.ensures),
       ap length c.as_slice-2.ensures.value,
     )
 
 pub returns-clause-ok : goal.returns-clause-ok
 returns-clause-ok c =
-    let at : IsAt (map string_bytes c.args.design.now.registers.items) c.in-Some-place_of.place c.text-2.result.now =
+    let at : IsAt (map string_bytes c.args.face.now.registers.items) c.in-Some-place_of.place c.text-2.result.now =
     subst (λ xs. IsAt (map string_bytes xs) c.in-Some-place_of.place c.text-2.result.now) c.as_slice.ensures.value c.in-Some-place_of.ensures in
-    let named = subst (λ n. IsAt (map string_bytes c.args.design.now.registers.items) c.in-Some-place_of.place n) c.text-2.ensures at in
+    let named = subst (λ n. IsAt (map string_bytes c.args.face.now.registers.items) c.in-Some-place_of.place n) c.text-2.ensures at in
     record {
       small = record {
         declarable = ap is_taken (sym c.text.ensures) ∙ sym c.is_taken.ensures ∙ c.if-is_taken.false;
@@ -34,5 +34,5 @@ returns-clause-ok c =
       place = c.in-Some-place_of.place;
       shows = c.in-Some.ensures;
       at = named;
-      leaf = ap (λ n. n + c.in-Some-place_of.place) (ap length c.as_slice-2.ensures.value ∙ sym (length_map string_bytes c.args.design.now.inputs.items));
+      leaf = ap (λ n. n + c.in-Some-place_of.place) (ap length c.as_slice-2.ensures.value ∙ sym (length_map string_bytes c.args.face.now.inputs.items));
     }

@@ -26,7 +26,7 @@ returns-clause-refused c =
       spells = c.in-Ok.ensures.ok.spells;
       spelled = c.in-Ok.ensures.ok.spelled;
       sized = c.in-Ok-sizes.ensures.ok;
-      large = c.in-Err-read_design.ensures.none (ap (λ f. Err f) e);
+      large = λ built. c.in-Err-read_design.ensures.none (ap (λ f. Err f) e) (c.built_is_small.ensures.small (source_tree c.in-Ok.source) c.in-Ok-sizes.ensures.ok built);
     }))
 
 pub returns-clause-long : goal.returns-clause-long

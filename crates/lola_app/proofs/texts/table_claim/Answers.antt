@@ -5,8 +5,8 @@ use Rattle.lola_parse.specs.Symbols.{items_of}
 use Rattle.lola_scan.specs.declared.token.Token.{Token}
 use Rattle.tab_tree.specs.Table.{table_tree}
 use Rattle.tab_read.specs.Grammar.{SpellsTable}
-use Rattle.lola_app.specs.Claiming.{face_of}
 use Rattle.lola_app.specs.Small.{IsSmallTable}
+use Rattle.lola_app.specs.Vectors.{interface_in}
 use Rattle.lola_app.proofs.ByRow.{fault_is}
 use Rattle.lola_app.proofs.Readings.{no_tokens, table_of}
 use Rattle.lola_app.proofs.texts.table_claim.Goals as goal
@@ -27,4 +27,4 @@ returns-clause-none c = λ e T spelled small.
     let same : T ≡ table_tree c.in-Ok-read_table.table =
     c.one_table.ensures (items_of Table c.args.text.now c.in-Ok.tokens.items) T (table_tree c.in-Ok-read_table.table)
     (table_of c.args.text.now c.in-Ok.tokens.items T (c.one_reading.ensures c.args.text.now) c.in-Ok.ensures.scanned spelled) read in
-    c.fit.ensures.none e (subst (IsSmallTable (face_of c.args.design)) same small)
+    c.fit.ensures.none e (subst (IsSmallTable (interface_in c.args.face)) same small)

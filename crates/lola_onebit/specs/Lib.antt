@@ -1,9 +1,0 @@
-pub mod Assigned
-pub mod Declares
-pub mod Elaborated
-pub mod Leaves
-pub mod Logic
-pub mod Modules
-pub mod Resolved
-pub mod Scope
-pub mod Small
