@@ -25,9 +25,9 @@ lines_of (name ∷ names) (width ∷ widths) (value ∷ values) = record { name 
 
 -- what a command comes to: all obligations hold, with their number and that of the inside classes;
 -- the named obligation fails at a valuation; the named one leaves so many bits free, which are too
--- many to try; the words are no command; the text of the design is refused for a fault; an outermost expression of it is too long, and its 513th token is at this
--- offset; the table is outside the forms that are built; a file couldn't be read, or is too long; want
--- of memory
+-- many to try; the words are no command; the text of the design is refused for a fault; an outermost
+-- expression of it is too long, and its 513th token is at this offset; the table is outside the forms
+-- that are built; a file couldn't be read, or is too long; want of memory
 pub data Outcome : Type 0 where
   accepted : (obligations classes : ℕ) → Outcome
   failed : (obligation : List ℕ) (valuation : List Line) → Outcome

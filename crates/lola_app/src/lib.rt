@@ -2,12 +2,12 @@
 //!
 //! `serve` takes the words of a command, reads its files, carries it out and prints one text. Its
 //! contract says when each outcome comes, and that the status and the text are that outcome's. The
-//! parts that decide designs by tables of the small form stand here as modules, each behind the name of the
-//! crate that it will move to. Files and output are known by the meanings of `lola_port` alone: what
-//! a file system or a terminal does is not known here.
+//! parts that decide designs by tables of the small form stand here as modules, until each moves to a
+//! crate of its own. Files and output are known by the meanings of `lola_port` alone: what a file system
+//! or a terminal does is not known here.
 #![tactic(auto)]
 
-// designs and tables of the small form
+// tables of the small form, and what they see of a design
 mod claim;
 mod classes;
 mod face;

@@ -3,8 +3,8 @@ ghost use Rattle.lola_elab.specs.declared.fault.ElabError.TheVariants.{Memory};
 
 use std::alloc::{AllocError, AllocFailed};
 
-/// Why a source gives no one-bit design: it is outside the forms that are built, or memory is
-/// wanting.
+/// Why a source gives no design, or an expression none over leaves: it is outside the forms that are built,
+/// or memory is wanting.
 #[derive(Clone, Copy, Debug, PartialEq, Eq)]
 pub enum ElabError {
     NotBuilt,
