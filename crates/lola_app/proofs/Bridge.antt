@@ -265,9 +265,9 @@ module _ (S : SourceTree) (T : TableTree) (subject : Subject) (fit : Fitting S T
   pub reset_start : (number : ℕ) (row : SetTree) (one : Start) → slice_get claim.starts.items number ≡ Some one → IsClaimedStart (interface_in claim.face) T row one → IsResetTold (goal.State number) (start row)
   reset_start number row one at claimed s inp v s' suits given cycle next =
       rw at
-      (told_same (state_value T.states (shown T s') row.name) (table_value row.value no_names) (slice_index_or (leaves_after subject (all s inp)) one.leaf false) (logic_value one.value (leaves_after subject (all s inp)))
+      (told_same (state_value T.states (shown T s') row.name) (table_value row.value no_names) (slice_index_or (leaves_after subject (all s inp)) one.leaf false) (logic_value one.value (leaves_before subject (all s inp)))
       (claimed.state_is s' inp (leaves_after subject (all s inp)) (after_are s inp v s' suits given cycle next))
-      (claimed.value_is (leaves_after subject (all s inp))))
+      (claimed.value_is (leaves_before subject (all s inp))))
 
   pub end_state : (number : ℕ) (row : StateTree) (one : State) → slice_get claim.states.items number ≡ Some one → IsClaimedState (interface_in claim.face) T is.small.class row one →
       IsEndTold is.small.class (goal.State number) (state row)

@@ -1,6 +1,7 @@
 -- The steps of a trial's loops.
-use Rattle.std.proofs.Common.{◌≡◌, ℕ, zero, suc, ◌+◌, ◌-◌, ◌/◌, ◌%◌, ◌<◌, ◌≤◌, ◌^◌, Bool, List, [], ◌∷◌, ◌++◌, length, map, take, drop, get_or, Option, Some, refl, sym, ap, ap₂, ◌∙◌, subst, arith, append_assoc, inl, inr}
-use Rattle.std.specs.Prelude.{nat_eq}
+use Rattle.std.proofs.Common.{◌≡◌, ℕ, zero, suc, ◌+◌, ◌-◌, ◌/◌, ◌%◌, ◌<◌, ◌≤◌, ◌^◌, Bool, true, false, List, [], ◌∷◌, ◌++◌, length, map, take, drop, get_or, Option, Some, refl, sym, ap, ap₂, ◌∙◌, subst, arith, append_assoc, inl, inr}
+use Rattle.std.specs.Prelude.{nat_eq, min, slice_index_or}
+use Rattle.std.proofs.lemmas.List.{length-take, get_or-append_right}
 use Rattle.std.proofs.Math.Nat.{div-div-eq-div-mul}
 use Rattle.std.proofs.lemmas.Nat.{pow-add}
 use Rattle.lola_alg.specs.Means.{number_of}
@@ -8,6 +9,7 @@ use Rattle.lola_elab.specs.declared.flat.Flat.{Flat}
 use Rattle.lola_elab.specs.declared.vector.Vector.{Vector}
 use Rattle.lola_elab.specs.Elaborated.{vector_widths}
 use Rattle.lola_elab.proofs.Steps.{drop_item}
+use Rattle.lola_elab.proofs.Widths.{equal_is}
 use Rattle.lola_app.specs.declared.obligation.Which.{Which}
 use Rattle.lola_app.specs.declared.obligation.Which.TheVariants as which
 use Rattle.lola_app.specs.declared.subject.Subject.{Subject}
@@ -69,6 +71,16 @@ one_seen w n ws ns = elim (either (nat_eq w 1)) [
   | inr e ↦ rw e refl
 ]
 
+pub not_one : (n : ℕ) → (n ≡ 1 → ⊥) → nat_eq n 1 ≡ false
+not_one n other = elim (either (nat_eq n 1)) [
+  | inl e ↦ absurd (other (equal_is n 1 e))
+  | inr e ↦ e
+]
+
+pub some_left : (n : ℕ) → (n ≡ 0 → ⊥) → 1 ≤ n
+some_left zero some = absurd (some refl)
+some_left (suc n) some = omega arith
+
 -- the next values of the registers that are left
 module _ (wide : Flat → Option ℕ) (value : Flat → ℕ) where
   abbrev pub AreWide : List Flat → List Vector → Type 0
@@ -115,6 +127,52 @@ module _ (wide : Flat → Option ℕ) (value : Flat → ℕ) where
       ap (λ (bs : List Bool). bs ++ rest) more ∙ append_assoc after (seen (r.width ∷ []) (value f ∷ [])) rest
       ∙ ap (λ (bs : List Bool). after ++ bs) (sym (one_seen r.width (value f) (vector_widths (drop (place + 1) registers)) (map value (drop (place + 1) nexts))))
       ∙ ap₂ (λ (rs : List Vector) (fs : List Flat). after ++ seen (vector_widths rs) (map value fs)) (sym (drop_item registers place r there is)) (sym (drop_item nexts place f (next_at registers nexts place r there is e).inside at)) ∙ made
+
+  -- the next values of one bit behind a register of one bit, and behind a wider one
+  next_items : (registers : List Vector) (nexts : List Flat) (place : ℕ) (r : Vector) → place < length registers → r ≡ get_or registers place r → AreWide (drop place nexts) (drop place registers) →
+      (f : Flat) × (drop place nexts ≡ f ∷ drop (place + 1) nexts)
+  next_items registers nexts place r there is e =
+      let first = first_flat (drop place nexts) r (drop (place + 1) registers) (subst (AreWide (drop place nexts)) (drop_item registers place r there is) e) in
+      (first.0, first.1.1 ∙ ap (λ (fs : List Flat). first.0 ∷ fs) (sym (behind nexts place first.0 first.1.0 first.1.1)))
+    where
+      behind : (fs : List Flat) (i : ℕ) (f : Flat) (gs : List Flat) → drop i fs ≡ f ∷ gs → drop (i + 1) fs ≡ gs
+      behind [] zero f gs e = cc
+      behind [] (suc i) f gs e = cc
+      behind (x ∷ fs) zero f gs e =
+          let first : drop (0 + 1) (x ∷ fs) ≡ fs = let n : 0 + 1 ≡ 1 = omega arith in ap (λ (k : ℕ). drop k (x ∷ fs)) n in
+          let tail : fs ≡ gs = cc in first ∙ tail
+      behind (x ∷ fs) (suc i) f gs e =
+          let next : drop (suc i + 1) (x ∷ fs) ≡ drop (i + 1) fs = let n : suc i + 1 ≡ suc (i + 1) = omega arith in ap (λ (k : ℕ). drop k (x ∷ fs)) n in
+          next ∙ behind fs i f gs e
+
+  pub next_behind : (registers : List Vector) (nexts : List Flat) (place left : ℕ) (r : Vector) → place < length registers → r ≡ get_or registers place r → AreWide (drop place nexts) (drop place registers) →
+      r.width ≡ 1 → 1 ≤ left →
+      slice_index_or (seen (vector_widths (drop (place + 1) registers)) (map value (drop (place + 1) nexts))) (left - 1) false ≡ slice_index_or (seen (vector_widths (drop place registers)) (map value (drop place nexts))) left false
+  next_behind registers nexts place left r there is e one some =
+      let items = next_items registers nexts place r there is e in
+      let on : nat_eq r.width 1 ≡ true = ap (λ (n : ℕ). nat_eq n 1) one in
+      let step : seen (vector_widths (r ∷ drop (place + 1) registers)) (map value (items.0 ∷ drop (place + 1) nexts)) ≡ nat_eq (value items.0) 1 ∷ seen (vector_widths (drop (place + 1) registers)) (map value (drop (place + 1) nexts)) =
+      rw on refl in
+      later (nat_eq (value items.0) 1) (seen (vector_widths (drop (place + 1) registers)) (map value (drop (place + 1) nexts))) left some
+      ∙ ap (λ (bs : List Bool). slice_index_or bs left false) (sym step)
+      ∙ ap₂ (λ (rs : List Vector) (fs : List Flat). slice_index_or (seen (vector_widths rs) (map value fs)) left false) (sym (drop_item registers place r there is)) (sym items.1)
+    where
+      later : (b : Bool) (bs : List Bool) (left : ℕ) → 1 ≤ left → slice_index_or bs (left - 1) false ≡ slice_index_or (b ∷ bs) left false
+      later b bs zero some = absurd (omega (arith, some))
+      later b bs (suc left) some = let less : suc left - 1 ≡ left = omega arith in ap (λ (n : ℕ). slice_index_or bs n false) less
+
+  pub next_passed : (registers : List Vector) (nexts : List Flat) (place left : ℕ) (r : Vector) → place < length registers → r ≡ get_or registers place r → AreWide (drop place nexts) (drop place registers) →
+      nat_eq r.width 1 ≡ false →
+      slice_index_or (seen (vector_widths (drop (place + 1) registers)) (map value (drop (place + 1) nexts))) left false ≡ slice_index_or (seen (vector_widths (drop place registers)) (map value (drop place nexts))) left false
+  next_passed registers nexts place left r there is e off =
+      let items = next_items registers nexts place r there is e in
+      let step : seen (vector_widths (r ∷ drop (place + 1) registers)) (map value (items.0 ∷ drop (place + 1) nexts)) ≡ seen (vector_widths (drop (place + 1) registers)) (map value (drop (place + 1) nexts)) = rw off refl in
+      ap (λ (bs : List Bool). slice_index_or bs left false) (sym step)
+      ∙ ap₂ (λ (rs : List Vector) (fs : List Flat). slice_index_or (seen (vector_widths rs) (map value fs)) left false) (sym (drop_item registers place r there is)) (sym items.1)
+
+-- a leaf behind those of the inputs
+pub behind_inputs : (k : ℕ) (before rest : List Bool) (leaf m : ℕ) → m ≡ min k (length before) → m ≤ leaf → slice_index_or (take k before ++ rest) leaf false ≡ slice_index_or rest (leaf - m) false
+behind_inputs k before rest leaf m is behind = get_or-append_right (take k before) rest m leaf false (length-take k before ∙ sym is) behind
 
 same_most : (n : ℕ) → n ≤ n
 same_most n = omega arith

@@ -51,19 +51,19 @@ abbrev pub place_fits : ℕ → Bool → Bool
 place_fits place word = fits_place place (bit_number word)
 
 -- the value of a START row is met
-abbrev pub start_passes : Option Start → List Bool → Bool
-start_passes None after = true
-start_passes (Some start) after = same_bit (slice_index_or after start.leaf false) (logic_value start.value after)
+abbrev pub start_passes : Option Start → List Bool → List Bool → Bool
+start_passes None before after = true
+start_passes (Some start) before after = same_bit (slice_index_or after start.leaf false) (logic_value start.value before)
 
 -- the value that the class gives a state is met
 abbrev pub state_passes : Option State → List Bool → List Bool → Bool
 state_passes None before after = true
 state_passes (Some state) before after = same_bit (slice_index_or after state.leaf false) (logic_value state.set before)
 
-abbrev pub reset_passes : Claim → Goal → List Bool → Bool
-reset_passes claim goal.Invariant after = logic_value claim.invariant after
-reset_passes claim goal.Boundary after = logic_value claim.boundary after
-reset_passes claim (goal.State number) after = start_passes (slice_get claim.starts.items number) after
+abbrev pub reset_passes : Claim → Goal → List Bool → List Bool → Bool
+reset_passes claim goal.Invariant before after = logic_value claim.invariant after
+reset_passes claim goal.Boundary before after = logic_value claim.boundary after
+reset_passes claim (goal.State number) before after = start_passes (slice_get claim.starts.items number) before after
 
 abbrev pub end_passes : Claim → Goal → List Bool → List Bool → Bool
 end_passes claim goal.Invariant before after = logic_value claim.invariant after
@@ -76,7 +76,7 @@ premises claim before = logic_value claim.invariant before && (logic_value claim
 
 -- the goals at the numbers of all vectors
 abbrev pub reset_at : Subject → Goal → List ℕ → Bool
-reset_at subject goal numbers = reset_passes subject.claim goal (leaves_after subject numbers)
+reset_at subject goal numbers = reset_passes subject.claim goal (leaves_before subject numbers) (leaves_after subject numbers)
 
 abbrev pub end_at : Subject → Goal → List ℕ → Bool
 end_at subject goal numbers =

@@ -1,4 +1,4 @@
-ghost use Rattle.std.specs.Prelude.{◌≡◌, ◌++◌, ◌<◌, ◌^◌, [], ◌∷◌, map, length, Some, IfOk, OnOk};
+ghost use Rattle.std.specs.Prelude.{◌≡◌, ◌++◌, [], ◌∷◌, nat_eq, false, map, length, slice_index_or, Some, IfOk, OnOk};
 ghost use Rattle.lola_alg.specs.Means.{number_of};
 ghost use Rattle.lola_elab.specs.declared.flat.Flat.{Flat as Formula};
 ghost use Rattle.lola_elab.specs.declared.vector.Vector.{Vector as Sized};
@@ -133,7 +133,65 @@ fn push_next(
     if register.width != 1 {
         return Ok(());
     }
-    let bits = flat_bits(alloc, next, vectors)?;
-    after.push(bits.items()[0])?;
+    after.push(one_bit(alloc, next, vectors)?)?;
     Ok(())
+}
+
+/// The value of one leaf behind the clock edge.
+pub fn leaf_after(
+    alloc: Global,
+    subject: &Subject,
+    vectors: &[Seq<bool>],
+    before: &[bool],
+    leaf: usize,
+) -> Result<bool, Memory>
+    requires triable { IsTriable subject.now }
+    requires sized { map length vectors.now ≡ subject.now.widths.items }
+    requires before { before.now ≡ seen (map length vectors.now) (map number_of vectors.now) }
+    ensures { IfOk result (λ bit. bit ≡ slice_index_or (leaves_after subject.now (map number_of vectors.now)) leaf false) }
+{
+    let inputs = subject.claim.face.inputs.as_slice().len().min(before.len());
+    if leaf < inputs {
+        return Ok(before[leaf]);
+    }
+    let bit = next_bit(
+        alloc,
+        subject.design.registers.as_slice(),
+        subject.design.nexts.as_slice(),
+        vectors,
+        leaf - inputs,
+    )?;
+    Ok(bit)
+}
+
+/// The next value of a register of one bit, by its place among those.
+fn next_bit(
+    alloc: Global,
+    registers: &[Vector],
+    nexts: &[Flat],
+    vectors: &[Seq<bool>],
+    bit: usize,
+) -> Result<bool, Memory>
+    requires { map (flat_width (map length vectors.now)) nexts.now ≡ map (λ (v : Sized). Some v.width) registers.now }
+    ensures { IfOk result (λ value. value ≡ slice_index_or (seen (vector_widths registers.now) (map (λ (f : Formula). flat_number (map length vectors.now) f (map number_of vectors.now)) nexts.now)) bit false) }
+{
+    let mut left = bit;
+    for (place, register) in registers.iter().enumerate() {
+        if register.width == 1 {
+            if left == 0 {
+                return one_bit(alloc, &nexts[place], vectors);
+            }
+            left -= 1;
+        }
+    }
+    Ok(false)
+}
+
+/// The one bit of an expression.
+fn one_bit(alloc: Global, flat: &Flat, vectors: &[Seq<bool>]) -> Result<bool, Memory>
+    requires { flat_width (map length vectors.now) flat.now ≡ Some 1 }
+    ensures { IfOk result (λ bit. bit ≡ nat_eq (flat_number (map length vectors.now) flat.now (map number_of vectors.now)) 1) }
+{
+    let bits = flat_bits(alloc, flat, vectors)?;
+    Ok(bits.items()[0])
 }

@@ -1,18 +1,20 @@
-ghost use Rattle.std.specs.Prelude.{◌≡◌, ◌≤◌, ◌<◌, ◌^◌, ◌++◌, length, [], ◌∷◌, drop, false, map, IfOk, OnOk, MatchOption, slice_index_or};
+ghost use Rattle.std.specs.Prelude.{◌≡◌, ◌≤◌, ◌<◌, ◌^◌, ◌++◌, length, [], ◌∷◌, drop, map, IfOk, OnOk, MatchOption, slice_index_or};
 ghost use Rattle.std.specs.List.{AllByRecursion};
 ghost use Rattle.std.specs.Option.{option_copied};
+ghost use Rattle.lola_alg.specs.Means.{number_of};
 ghost use Rattle.lola_elab.specs.Elaborated.{vector_widths};
+ghost use Rattle.lola_elab.specs.Logic.{logic_value};
 ghost use Rattle.lola_app.specs.Deciding.{IsFew, IsFirstWide, IsDecidedBy};
 ghost use Rattle.lola_app.specs.Obligations.{total};
-ghost use Rattle.lola_app.specs.Trial.{but_one, place_fits, start_passes, state_passes, reset_passes, end_passes, premises, passes, tried_widths, IsTriable};
+ghost use Rattle.lola_app.specs.Trial.{but_one, seen, leaves_after, place_fits, start_passes, state_passes, reset_passes, end_passes, premises, passes, tried_widths, IsTriable};
 ghost use Rattle.lola_app.specs.Valuations.{AreWithin, numbers_of, Always, IsLeast};
 
 use crate::claim::{Claim, Start, State};
-use crate::cycle::{leaves_after, leaves_before, vectors_with};
+use crate::cycle::{leaf_after, leaves_after, leaves_before, vectors_with};
 use crate::obligation::{Goal, Obligation, Which};
 use crate::subject::{Subject, add_widths};
-use lola_bits::Memory;
-use lola_elab::{Vector, eval};
+use lola_bits::{Memory, Seq};
+use lola_elab::{Logic, Vector, eval};
 use std::alloc::{AllocError, Global};
 
 /// Whether all obligations hold at every valuation, or the number of the first that fails with its
@@ -162,8 +164,7 @@ fn holds_at(alloc: Global, subject: &Subject, which: Which, numbers: &[u32]) -> 
         Which::Reset { goal } => {
             let vectors = vectors_with(alloc, subject, subject.claim.active, numbers)?;
             let before = leaves_before(alloc, vectors.as_slice())?;
-            let after = leaves_after(alloc, subject, vectors.as_slice(), before.as_slice())?;
-            Ok(reset_holds(&subject.claim, goal, after.as_slice()))
+            reset_holds(alloc, subject, goal, vectors.as_slice(), before.as_slice())
         }
         Which::End { goal } => {
             let vectors = vectors_with(alloc, subject, !subject.claim.active, numbers)?;
@@ -171,8 +172,7 @@ fn holds_at(alloc: Global, subject: &Subject, which: Which, numbers: &[u32]) -> 
             if !premises_hold(&subject.claim, before.as_slice()) {
                 return Ok(true);
             }
-            let after = leaves_after(alloc, subject, vectors.as_slice(), before.as_slice())?;
-            Ok(end_holds(&subject.claim, goal, before.as_slice(), after.as_slice()))
+            end_holds(alloc, subject, goal, vectors.as_slice(), before.as_slice())
         }
     }
 }
@@ -204,51 +204,106 @@ fn premises_hold(claim: &Claim, before: &[bool]) -> bool
 }
 
 /// Whether a goal holds after a reset cycle.
-fn reset_holds(claim: &Claim, goal: Goal, after: &[bool]) -> bool
-    ensures { result ≡ reset_passes claim.now goal after.now }
+fn reset_holds(
+    alloc: Global,
+    subject: &Subject,
+    goal: Goal,
+    vectors: &[Seq<bool>],
+    before: &[bool],
+) -> Result<bool, Memory>
+    requires triable { IsTriable subject.now }
+    requires sized { map length vectors.now ≡ subject.now.widths.items }
+    requires before { before.now ≡ seen (map length vectors.now) (map number_of vectors.now) }
+    ensures { IfOk result (λ holds. holds ≡ reset_passes subject.now.claim goal before.now (leaves_after subject.now (map number_of vectors.now))) }
 {
     match goal {
-        Goal::Invariant => eval(&claim.invariant, after),
-        Goal::Boundary => eval(&claim.boundary, after),
-        Goal::State { number } => start_holds(claim.starts.get(number), after),
+        Goal::Invariant => holds_after(alloc, subject, &subject.claim.invariant, vectors, before),
+        Goal::Boundary => holds_after(alloc, subject, &subject.claim.boundary, vectors, before),
+        Goal::State { number } => {
+            let start = subject.claim.starts.get(number);
+            start_holds(alloc, subject, start, vectors, before)
+        }
     }
 }
 
-fn start_holds(start: Option<&Start>, after: &[bool]) -> bool
-    ensures { result ≡ start_passes (option_copied start.entry) after.now }
+fn start_holds(
+    alloc: Global,
+    subject: &Subject,
+    start: Option<&Start>,
+    vectors: &[Seq<bool>],
+    before: &[bool],
+) -> Result<bool, Memory>
+    requires triable { IsTriable subject.now }
+    requires sized { map length vectors.now ≡ subject.now.widths.items }
+    requires before { before.now ≡ seen (map length vectors.now) (map number_of vectors.now) }
+    ensures { IfOk result (λ holds. holds ≡ start_passes (option_copied start.entry) before.now (leaves_after subject.now (map number_of vectors.now))) }
 {
     match start {
-        Some(start) => bit_at(after, start.leaf) == eval(&start.value, after),
-        None => true,
+        Some(start) => {
+            let after = leaf_after(alloc, subject, vectors, before, start.leaf)?;
+            Ok(after == eval(&start.value, before))
+        }
+        None => Ok(true),
     }
 }
 
 /// Whether a goal holds at the end of the instruction.
-fn end_holds(claim: &Claim, goal: Goal, before: &[bool], after: &[bool]) -> bool
-    ensures { result ≡ end_passes claim.now goal before.now after.now }
+fn end_holds(
+    alloc: Global,
+    subject: &Subject,
+    goal: Goal,
+    vectors: &[Seq<bool>],
+    before: &[bool],
+) -> Result<bool, Memory>
+    requires triable { IsTriable subject.now }
+    requires sized { map length vectors.now ≡ subject.now.widths.items }
+    requires before { before.now ≡ seen (map length vectors.now) (map number_of vectors.now) }
+    ensures { IfOk result (λ holds. holds ≡ end_passes subject.now.claim goal before.now (leaves_after subject.now (map number_of vectors.now))) }
 {
     match goal {
-        Goal::Invariant => eval(&claim.invariant, after),
-        Goal::Boundary => eval(&claim.boundary, after),
-        Goal::State { number } => state_holds(claim.states.get(number), before, after),
+        Goal::Invariant => holds_after(alloc, subject, &subject.claim.invariant, vectors, before),
+        Goal::Boundary => holds_after(alloc, subject, &subject.claim.boundary, vectors, before),
+        Goal::State { number } => {
+            let state = subject.claim.states.get(number);
+            state_holds(alloc, subject, state, vectors, before)
+        }
     }
 }
 
-fn state_holds(state: Option<&State>, before: &[bool], after: &[bool]) -> bool
-    ensures { result ≡ state_passes (option_copied state.entry) before.now after.now }
+fn state_holds(
+    alloc: Global,
+    subject: &Subject,
+    state: Option<&State>,
+    vectors: &[Seq<bool>],
+    before: &[bool],
+) -> Result<bool, Memory>
+    requires triable { IsTriable subject.now }
+    requires sized { map length vectors.now ≡ subject.now.widths.items }
+    requires before { before.now ≡ seen (map length vectors.now) (map number_of vectors.now) }
+    ensures { IfOk result (λ holds. holds ≡ state_passes (option_copied state.entry) before.now (leaves_after subject.now (map number_of vectors.now))) }
 {
     match state {
-        Some(state) => bit_at(after, state.leaf) == eval(&state.set, before),
-        None => true,
+        Some(state) => {
+            let after = leaf_after(alloc, subject, vectors, before, state.leaf)?;
+            Ok(after == eval(&state.set, before))
+        }
+        None => Ok(true),
     }
 }
 
-/// The value of a leaf.
-fn bit_at(leaves: &[bool], leaf: usize) -> bool
-    ensures { result ≡ slice_index_or leaves.now leaf false }
+/// Whether an expression holds behind the clock edge.
+fn holds_after(
+    alloc: Global,
+    subject: &Subject,
+    logic: &Logic,
+    vectors: &[Seq<bool>],
+    before: &[bool],
+) -> Result<bool, Memory>
+    requires triable { IsTriable subject.now }
+    requires sized { map length vectors.now ≡ subject.now.widths.items }
+    requires before { before.now ≡ seen (map length vectors.now) (map number_of vectors.now) }
+    ensures { IfOk result (λ holds. holds ≡ logic_value logic.now (leaves_after subject.now (map number_of vectors.now))) }
 {
-    match leaves.get(leaf) {
-        Some(bit) => *bit,
-        None => false,
-    }
+    let after = leaves_after(alloc, subject, vectors, before)?;
+    Ok(eval(logic, after.as_slice()))
 }

@@ -1,0 +1,17 @@
+use Rattle.std.proofs.Common.{◌≡◌, Some, drop, false, length, map}
+use Rattle.std.specs.Prelude.{slice_index_or}
+use Rattle.lola_alg.specs.Means.{number_of}
+use Rattle.lola_elab.specs.declared.flat.Flat.{Flat}
+use Rattle.lola_elab.specs.declared.vector.Vector.{Vector}
+use Rattle.lola_elab.specs.Elaborated.{vector_widths}
+use Rattle.lola_elab.specs.Flat.{flat_width, flat_number}
+use Rattle.lola_app.specs.Trial.{seen}
+use Rattle.lola_app.proofs.cycle.next_bit.Given as goal
+
+-- the bit that is looked for stands at the place that is left behind those passed
+abbrev pub invariant-loop-place : goal.invariant-loop-place
+invariant-loop-place l = record {
+  wide : map (flat_width (map length l.vectors)) (drop l.place l.nexts) ≡ map (λ (v : Vector). Some v.width) (drop l.place l.registers);
+  same : slice_index_or (seen (vector_widths (drop l.place l.registers)) (map (λ (f : Flat). flat_number (map length l.vectors) f (map number_of l.vectors)) (drop l.place l.nexts))) l.left false
+      ≡ slice_index_or (seen (vector_widths l.registers) (map (λ (f : Flat). flat_number (map length l.vectors) f (map number_of l.vectors)) l.nexts)) l.bit false;
+}
