@@ -66,6 +66,17 @@ told_same m n x y e f = record {
   no = λ off same. (same_told x y).no off (sym e ∙ same ∙ f);
 }
 
+-- the value of RESET in its cycle and in any other, as bits
+active_bit : (a : Active) → active_value a ≡ bit_number a.value
+active_bit a = elim a.value as (λ b. (if b then 1 else 0) ≡ bit_number b) [ true ↦ refl | false ↦ refl ]
+
+idle_bit : (a : Active) → idle_value a ≡ bit_number (not a.value)
+idle_bit a = elim a.value as (λ b. (if b then 0 else 1) ≡ bit_number (not b)) [ true ↦ refl | false ↦ refl ]
+
+and_true : (b : Bool) → (b && true) ≡ b
+and_true true = refl
+and_true false = refl
+
 -- a design and a claim about it, which are those of a source and a table
 pub record Fitting (S : SourceTree) (T : TableTree) (subject : Subject) : Type 0 where
   pub does : Behaves S subject.design
@@ -86,33 +97,33 @@ module _ (S : SourceTree) (T : TableTree) (subject : Subject) (fit : Fitting S T
   abbrev pub does : Behaves S subject.design
   does = fit.does
 
-  abbrev pub I : List (List ℕ)
-  I = vector_names subject.design.inputs.items
+  abbrev pub input_names : List (List ℕ)
+  input_names = vector_names subject.design.inputs.items
 
-  abbrev pub R : List (List ℕ)
-  R = vector_names subject.design.registers.items
+  abbrev pub register_names : List (List ℕ)
+  register_names = vector_names subject.design.registers.items
 
-  abbrev pub iw : List ℕ
-  iw = vector_widths subject.design.inputs.items
+  abbrev pub input_widths : List ℕ
+  input_widths = vector_widths subject.design.inputs.items
 
-  abbrev pub rw' : List ℕ
-  rw' = vector_widths subject.design.registers.items
+  abbrev pub register_widths : List ℕ
+  register_widths = vector_widths subject.design.registers.items
 
-  -- the numbers of all vectors
+  -- the numbers of the inputs, of the registers, and of all vectors
+  abbrev pub input_numbers : Values → List ℕ
+  input_numbers inp = values_of inp input_names
+
+  abbrev pub register_numbers : Values → List ℕ
+  register_numbers s = values_of s register_names
+
   abbrev pub all : Values → Values → List ℕ
-  all s inp = values_of inp I ++ values_of s R
+  all s inp = input_numbers inp ++ register_numbers s
 
   active_is : (inp : Values) → IsActive T inp → inp (T.reset.port ∷ []) ≡ bit_number claim.active
-  active_is inp active = active ∙ value_bit T.reset ∙ ap bit_number (sym is.active)
-    where
-      value_bit : (a : Active) → active_value a ≡ bit_number a.value
-      value_bit a = elim a.value as (λ b. (if b then 1 else 0) ≡ bit_number b) [ true ↦ refl | false ↦ refl ]
+  active_is inp active = active ∙ active_bit T.reset ∙ ap bit_number (sym is.active)
 
   idle_is : (inp : Values) → IsIdle T inp → inp (T.reset.port ∷ []) ≡ bit_number (not claim.active)
-  idle_is inp idle = idle ∙ value_bit T.reset ∙ ap (λ (b : Bool). bit_number (not b)) (sym is.active)
-    where
-      value_bit : (a : Active) → idle_value a ≡ bit_number (not a.value)
-      value_bit a = elim a.value as (λ b. (if b then 0 else 1) ≡ bit_number (not b)) [ true ↦ refl | false ↦ refl ]
+  idle_is inp idle = idle ∙ idle_bit T.reset ∙ ap (λ (b : Bool). bit_number (not b)) (sym is.active)
 
   -- the free values of a cycle
   abbrev pub free : Valuation → List ℕ
@@ -120,16 +131,17 @@ module _ (S : SourceTree) (T : TableTree) (subject : Subject) (fit : Fitting S T
 
   all_are : (w : Valuation) (value : ℕ) → w.input (T.reset.port ∷ []) ≡ value → all w.state w.input ≡ with_reset subject.reset value (free w)
   all_are w value at =
-      put_in w.input I (values_of w.state R) T.reset.port subject.reset value (free w) does.inputs_distinct fit.at at
+      put_in w.input input_names (register_numbers w.state) T.reset.port subject.reset value (free w) does.inputs_distinct fit.at at
       (ap₂ (λ (xs ys : List (List ℕ)). values_of w.input (without T.reset.port xs) ++ values_of w.state ys) (sym does.inputs_are) (sym does.registers_are))
 
   -- what the table sees, before the clock edge and behind it
   before_are : (s inp : Values) → IsState S s → IsGiven S inp → AreLeaves (interface_in claim.face) s inp (leaves_before subject (all s inp))
   before_are s inp suits given =
-      let long : length (values_of inp I) ≡ length iw = within_long iw (values_of inp I) (does.given_within inp given) in
-      let apart : leaves_before subject (all s inp) ≡ seen iw (values_of inp I) ++ seen rw' (values_of s R) = seen_append iw rw' (values_of inp I) (values_of s R) long in
+      let long : length (input_numbers inp) ≡ length input_widths = within_long input_widths (input_numbers inp) (does.given_within inp given) in
+      let apart : leaves_before subject (all s inp) ≡ seen input_widths (input_numbers inp) ++ seen register_widths (register_numbers s) =
+      seen_append input_widths register_widths (input_numbers inp) (register_numbers s) long in
       subst (λ (f : Interface). AreLeaves f s inp (leaves_before subject (all s inp))) (sym fit.sees)
-      (both_bits (values_of inp (bit_names subject.design.inputs.items)) (values_of s (bit_names subject.design.registers.items)) (seen iw (values_of inp I)) (seen rw' (values_of s R))
+      (both_bits (values_of inp (bit_names subject.design.inputs.items)) (values_of s (bit_names subject.design.registers.items)) (seen input_widths (input_numbers inp)) (seen register_widths (register_numbers s))
       (seen_are inp subject.design.inputs.items (does.given_within inp given)) (seen_are s subject.design.registers.items (does.state_within s suits))
       ∙ ap (map bit_number) (sym apart))
 
@@ -141,11 +153,11 @@ module _ (S : SourceTree) (T : TableTree) (subject : Subject) (fit : Fitting S T
       let F = interface_in claim.face in
       let front : AreBits (values_of inp F.inputs) (take (length (values_of inp F.inputs)) (leaves_before subject (all s inp))) =
       front_bits (values_of inp F.inputs) (values_of s F.registers) (leaves_before subject (all s inp)) (before_are s inp suits given) in
-      let later : AreBits (values_of s' (bit_names subject.design.registers.items)) (seen rw' (values_of s' R)) =
+      let later : AreBits (values_of s' (bit_names subject.design.registers.items)) (seen register_widths (register_numbers s')) =
       seen_are s' subject.design.registers.items (does.state_within s' (fit.after s inp v s' suits given cycle next)) in
-      let back : AreBits (values_of s' F.registers) (seen rw' (next_numbers subject (all s inp))) =
-      ap (λ (f : Interface). values_of s' f.registers) fit.sees ∙ later ∙ ap (λ (ns : List ℕ). map bit_number (seen rw' ns)) (does.next s inp v s' cycle next) in
-      both_bits (values_of inp F.inputs) (values_of s' F.registers) (take (length claim.face.inputs.items) (leaves_before subject (all s inp))) (seen rw' (next_numbers subject (all s inp)))
+      let back : AreBits (values_of s' F.registers) (seen register_widths (next_numbers subject (all s inp))) =
+      ap (λ (f : Interface). values_of s' f.registers) fit.sees ∙ later ∙ ap (λ (ns : List ℕ). map bit_number (seen register_widths ns)) (does.next s inp v s' cycle next) in
+      both_bits (values_of inp F.inputs) (values_of s' F.registers) (take (length claim.face.inputs.items) (leaves_before subject (all s inp))) (seen register_widths (next_numbers subject (all s inp)))
       (subst (λ (n : ℕ). AreBits (values_of inp F.inputs) (take n (leaves_before subject (all s inp)))) (seen_inputs inp) front) back
 
   -- a goal that its trial decides at all numbers
@@ -189,10 +201,6 @@ module _ (S : SourceTree) (T : TableTree) (subject : Subject) (fit : Fitting S T
             (and_from (logic_value claim.boundary leaves) (place_fits claim.pattern false) (is_on two kept.boundary) (sym three ∙ kept.fit)));
       }
     where
-      and_true : (b : Bool) → (b && true) ≡ b
-      and_true true = refl
-      and_true false = refl
-
       and_parts : (a b : Bool) → (a && b) ≡ true → (a ≡ true) × (b ≡ true)
       and_parts true true e = (refl, refl)
       and_parts true false e = absurd (let f : false ≡ true = e in cc)
@@ -304,32 +312,27 @@ module _ (S : SourceTree) (T : TableTree) (subject : Subject) (fit : Fitting S T
 
       one_place : (p : ℕ) (b : Bool) → fits (p ∷ []) (bit_number b) ≡ place_fits p b
       one_place p true = and_true (place_fits p true)
-        where
-          and_true : (b : Bool) → (b && true) ≡ b
-          and_true true = refl
-          and_true false = refl
       one_place p false = and_true (place_fits p false)
-        where
-          and_true : (b : Bool) → (b && true) ≡ b
-          and_true true = refl
-          and_true false = refl
 
       fits_bit : (word : ℕ) → word ≤ 1 → fits is.small.class.pattern word ≡ place_fits claim.pattern (nat_eq (slice_index_or (word ∷ []) 0 0) 1)
       fits_bit word below =
           ap (λ (p : List ℕ). fits p word) is.pattern ∙ ap (λ n. fits (claim.pattern ∷ []) n) (bit_back word below) ∙ one_place claim.pattern (nat_eq word 1)
 
   -- the free values of a cycle are within their widths
-  reset_place : subject.reset < length iw
-  reset_place = slice_get_within iw subject.reset 1 fit.bit
+  reset_place : subject.reset < length input_widths
+  reset_place = slice_get_within input_widths subject.reset 1 fit.bit
 
-  cycle_within : (w : Valuation) (value : ℕ) → IsState S w.state → IsGiven S w.input → w.input (T.reset.port ∷ []) ≡ value → AreWithin (but_one subject.reset iw rw') (free w)
+  cycle_within : (w : Valuation) (value : ℕ) → IsState S w.state → IsGiven S w.input → w.input (T.reset.port ∷ []) ≡ value → AreWithin (but_one subject.reset input_widths register_widths) (free w)
   cycle_within w value suits given at =
-      let whole : AreWithin (iw ++ rw') (all w.state w.input) = within_both iw rw' (values_of w.input I) (values_of w.state R) (does.given_within w.input given) (does.state_within w.state suits) in
-      let put : AreWithin (iw ++ rw') (with_reset subject.reset value (free w)) = subst (AreWithin (iw ++ rw')) (all_are w value at) whole in
-      let long : length (with_reset subject.reset value (free w)) ≡ length (iw ++ rw') = within_long (iw ++ rw') (with_reset subject.reset value (free w)) put in
-      let parts : length (iw ++ rw') ≡ length iw + length rw' = length-append iw rw' in
+      let whole : AreWithin (input_widths ++ register_widths) (all w.state w.input) =
+      within_both input_widths register_widths (input_numbers w.input) (register_numbers w.state) (does.given_within w.input given) (does.state_within w.state suits) in
+      let put : AreWithin (input_widths ++ register_widths) (with_reset subject.reset value (free w)) =
+      subst (AreWithin (input_widths ++ register_widths)) (all_are w value at) whole in
+      let long : length (with_reset subject.reset value (free w)) ≡ length (input_widths ++ register_widths) =
+      within_long (input_widths ++ register_widths) (with_reset subject.reset value (free w)) put in
+      let parts : length (input_widths ++ register_widths) ≡ length input_widths + length register_widths = length-append input_widths register_widths in
       let longer : length (with_reset subject.reset value (free w)) ≡ suc (length (free w)) = one_longer subject.reset value (free w) in
-      within_out iw rw' (free w) subject.reset value reset_place (let p = reset_place in omega (arith, p, long, parts, longer)) put
+      within_out input_widths register_widths (free w) subject.reset value reset_place (let p = reset_place in omega (arith, p, long, parts, longer)) put
     where
       one_longer : (place value : ℕ) (ns : List ℕ) → length (with_reset place value ns) ≡ suc (length ns)
       one_longer zero value ns = refl
@@ -337,16 +340,17 @@ module _ (S : SourceTree) (T : TableTree) (subject : Subject) (fit : Fitting S T
       one_longer (suc place) value (n ∷ ns) = ap suc (one_longer place value ns)
 
   -- a state and an input with given numbers
-  cycle_valuation : (bit : Bool) (ns : List ℕ) → AreWithin (but_one subject.reset iw rw') ns →
+  cycle_valuation : (bit : Bool) (ns : List ℕ) → AreWithin (but_one subject.reset input_widths register_widths) ns →
       (w : Valuation) × IsState S w.state × IsGiven S w.input × (w.input (T.reset.port ∷ []) ≡ bit_number bit) × (free w ≡ ns)
   cycle_valuation bit ns within =
-      let put : AreWithin (iw ++ rw') (with_reset subject.reset (bit_number bit) ns) = within_put iw rw' ns subject.reset (bit_number bit) fit.bit (bit_low bit) within in
-      let parts = halves iw rw' (with_reset subject.reset (bit_number bit) ns) put in
+      let put : AreWithin (input_widths ++ register_widths) (with_reset subject.reset (bit_number bit) ns) =
+      within_put input_widths register_widths ns subject.reset (bit_number bit) fit.bit (bit_low bit) within in
+      let parts = halves input_widths register_widths (with_reset subject.reset (bit_number bit) ns) put in
       let inp = does.given_of parts.front parts.front_within in
       let s = does.state_of parts.back parts.back_within in
       let w : Valuation = record { word = 0; state = s.0; input = inp.0 } in
-      let here : values_of inp.0 I ++ values_of s.0 R ≡ with_reset subject.reset (bit_number bit) ns = ap₂ (λ (xs ys : List ℕ). xs ++ ys) inp.2 s.2 ∙ parts.both in
-      let out = take_out inp.0 I (values_of s.0 R) T.reset.port subject.reset (bit_number bit) ns does.inputs_distinct fit.at (place_low ns within) here in (
+      let here : input_numbers inp.0 ++ register_numbers s.0 ≡ with_reset subject.reset (bit_number bit) ns = ap₂ (λ (xs ys : List ℕ). xs ++ ys) inp.2 s.2 ∙ parts.both in
+      let out = take_out inp.0 input_names (register_numbers s.0) T.reset.port subject.reset (bit_number bit) ns does.inputs_distinct fit.at (place_low ns within) here in (
         w,
         s.1,
         inp.1,
@@ -354,24 +358,20 @@ module _ (S : SourceTree) (T : TableTree) (subject : Subject) (fit : Fitting S T
         ap₂ (λ (xs ys : List (List ℕ)). values_of inp.0 (without T.reset.port xs) ++ values_of s.0 ys) does.inputs_are does.registers_are ∙ out.1,
       )
     where
-      place_low : (ns : List ℕ) → AreWithin (but_one subject.reset iw rw') ns → subject.reset ≤ length ns
+      place_low : (ns : List ℕ) → AreWithin (but_one subject.reset input_widths register_widths) ns → subject.reset ≤ length ns
       place_low ns within =
-          let long : length ns ≡ length (but_one subject.reset iw rw') = within_long (but_one subject.reset iw rw') ns within in
-          let parts : length (but_one subject.reset iw rw') ≡ length (take subject.reset iw) + length (drop (subject.reset + 1) iw ++ rw') = length-append (take subject.reset iw) (drop (subject.reset + 1) iw ++ rw') in
-          let taken : length (take subject.reset iw) ≡ subject.reset = length-take-le subject.reset iw (let p = reset_place in omega (arith, p)) in
+          let long : length ns ≡ length (but_one subject.reset input_widths register_widths) =
+          within_long (but_one subject.reset input_widths register_widths) ns within in
+          let parts : length (but_one subject.reset input_widths register_widths) ≡ length (take subject.reset input_widths) + length (drop (subject.reset + 1) input_widths ++ register_widths) =
+          length-append (take subject.reset input_widths) (drop (subject.reset + 1) input_widths ++ register_widths) in
+          let taken : length (take subject.reset input_widths) ≡ subject.reset = length-take-le subject.reset input_widths (let p = reset_place in omega (arith, p)) in
           omega (arith, long, parts, taken)
 
   is_active : (inp : Values) → inp (T.reset.port ∷ []) ≡ bit_number claim.active → IsActive T inp
-  is_active inp at = at ∙ ap bit_number is.active ∙ sym (value_bit T.reset)
-    where
-      value_bit : (a : Active) → active_value a ≡ bit_number a.value
-      value_bit a = elim a.value as (λ b. (if b then 1 else 0) ≡ bit_number b) [ true ↦ refl | false ↦ refl ]
+  is_active inp at = at ∙ ap bit_number is.active ∙ sym (active_bit T.reset)
 
   is_idle : (inp : Values) → inp (T.reset.port ∷ []) ≡ bit_number (not claim.active) → IsIdle T inp
-  is_idle inp at = at ∙ ap (λ (b : Bool). bit_number (not b)) is.active ∙ sym (value_bit T.reset)
-    where
-      value_bit : (a : Active) → idle_value a ≡ bit_number (not a.value)
-      value_bit a = elim a.value as (λ b. (if b then 0 else 1) ≡ bit_number (not b)) [ true ↦ refl | false ↦ refl ]
+  is_idle inp at = at ∙ ap (λ (b : Bool). bit_number (not b)) is.active ∙ sym (idle_bit T.reset)
 
   pub reset_spans : (g : Tried) (goal : Goal) → Spans S T subject (reset goal) (which.Reset g)
   reset_spans g goal = record {

@@ -1,7 +1,9 @@
 -- The first of several faults.
 use Rattle.std.proofs.Common.{◌≡◌, List, [], ◌∷◌, ◌++◌, Option, Some, None, Result, Ok, Err, OnOk, refl, ◌∙◌}
+use Rattle.lola_tree.specs.Tree.{SourceTree}
 use Rattle.lola_width.specs.declared.fault.SourceFault.{SourceFault}
 use Rattle.lola_width.specs.Order.{sooner, first_after}
+use Rattle.lola_width.specs.Sized.{source_faults, IsWellSized, first_fault}
 
 pub first_append : (found : Option SourceFault) (xs ys : List SourceFault) → first_after found (xs ++ ys) ≡ first_after (first_after found xs) ys
 first_append found [] ys = refl
@@ -27,3 +29,6 @@ none_found (f ∷ faults) none = absurd (stays (sooner None f) faults none) wher
   stays : (f : SourceFault) (faults : List SourceFault) → first_after (Some f) faults ≡ None → ⊥
   stays f [] none = (cc)
   stays f (g ∷ faults) none = stays (sooner (Some f) g) faults none
+
+pub well_sized : (S : SourceTree) → first_fault S ≡ None → IsWellSized S
+well_sized S none = record { none = none_found (source_faults S) none }

@@ -135,6 +135,16 @@ fn check_modules(
     Ok(())
 }
 
+/// The first fault of a source, if there is one.
+fn first_of(alloc: Global, source: &Source) -> Result<Option<SourceFault>, Memory>
+    ensures { IfOk result (λ first. first ≡ first_fault (source_tree source.now)) }
+{
+    let mut first = None;
+    let mut modules = Modules::new(alloc);
+    check_modules(alloc, &mut modules, source.modules.items(), &mut first)?;
+    Ok(first)
+}
+
 /// Whether a source is well sized: no rule of names, widths and assignments is broken. Else the first
 /// fault by stage (names, widths, assignments), then by place, then by the order of the kinds as
 /// `SourceFault` lists them. Memory where there isn't enough for the tables of names.
@@ -142,10 +152,7 @@ pub fn sizes(alloc: Global, source: &Source) -> Result<(), SourceFault>
     ensures ok { OnOk result (IsWellSized (source_tree source.now)) }
     ensures fault { IfErr result (λ fault. fault ≢ NoMemory → first_fault (source_tree source.now) ≡ Some fault) }
 {
-    let mut first = None;
-    let mut modules = Modules::new(alloc);
-    check_modules(alloc, &mut modules, source.modules.items(), &mut first)?;
-    match first {
+    match first_of(alloc, source)? {
         None => Ok(()),
         Some(fault) => Err(fault),
     }
