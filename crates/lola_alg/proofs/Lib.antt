@@ -12,3 +12,4 @@ pub mod OpMeans
 pub mod Loops
 pub mod Moves
 pub mod Elements
+pub mod Places

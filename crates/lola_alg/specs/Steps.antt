@@ -16,6 +16,11 @@ abbrev pub into : {D X Y : Type 0} → Option (D × X) → (X → Step D Y) → 
 into None next = None
 into (Some made) next = next made.1 made.0
 
+-- what was made, all of whose gates have a place
+abbrev pub HasPlaces : {D X : Type 0} → Option (D × X) → Type 0
+HasPlaces None = ⊥
+HasPlaces (Some made) = Unit {0}
+
 -- a step for each bit of a vector, and for each two of two vectors
 abbrev pub each_step : {D A B : Type 0} → (A → Step D B) → List A → Step D (List B)
 each_step f [] d = Some (d, [])

@@ -17,6 +17,7 @@ pub enum AlgError {
 pub trait Algebra {
     type Bit: Copy;
 
+    /// What contracts see of the algebra's data: what its calls answer depends on this alone.
     type State;
 
     ghost use Rattle.lola_alg.specs.Algebra.{Calls, Meaning, IsAlgebra, Fits, Keeps, Kept};
@@ -38,7 +39,8 @@ pub trait Algebra {
         ensures made { (state self.new, result) ≡ calls.negated (state self.old) a }
         ensures kept { Keeps meaning (state self.old) (state self.new) result };
 
-    /// Whether both of two known bits are 1.
+    /// Whether both of two known bits are 1. `Full` comes exactly where there is no place for the gate, and
+    /// changes nothing; so does `Memory`, which is want of memory.
     fn and(&mut self, a: Self::Bit, b: Self::Bit) -> Result<Self::Bit, AlgError>
         requires a { meaning.knows (state self.old) a ≡ true }
         requires b { meaning.knows (state self.old) b ≡ true }

@@ -198,7 +198,9 @@ fn rewritten<A: Algebra>(
     }
 }
 
-/// The bits of the element at a place of an array, the lowest first.
+/// The bits of the element at a place of an array, the lowest first: by the steps of reading, in their order.
+/// The array has 2 to k elements of one width of 1 to 128 bits, where k, from 1 to 10, is the length of the
+/// place. `Full` comes exactly where one of the steps has no place for its gate, and `Memory` for want of memory.
 pub fn low_read<A: Algebra>(
     alloc: Global,
     alg: &mut A,
@@ -217,7 +219,10 @@ pub fn low_read<A: Algebra>(
     }
 }
 
-/// The elements of an array, where the one at a place becomes a value of their width.
+/// The elements of an array, where the one at a place becomes a value of their width: by the steps of writing,
+/// in their order. The array has 2 to k elements of one width of 1 to 128 bits, where k, from 1 to 10, is the
+/// length of the place. `Full` comes exactly where one of the steps has no place for its gate, and `Memory`
+/// for want of memory.
 pub fn low_write<A: Algebra>(
     alloc: Global,
     alg: &mut A,

@@ -10,6 +10,7 @@
 mod algebra;
 mod arrays;
 mod gates;
+mod laws;
 mod lower;
 mod plain;
 mod shifts;
@@ -18,5 +19,6 @@ mod vectors;
 
 pub use algebra::{AlgError, Algebra};
 pub use arrays::{low_read, low_write};
+pub use laws::plain_is_never_full;
 pub use lower::low_op;
 pub use plain::Plain;

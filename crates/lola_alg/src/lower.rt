@@ -108,7 +108,10 @@ fn two<A: Algebra>(
 }
 
 /// The bits that an operator makes of arguments that suit it, the lowest first: by the steps of its row, in
-/// their order, so that they mean its number. `Full` comes where one of the steps has no place for its gate.
+/// their order, so that they mean its number. Each argument is the bits of a vector of 1 to 128, the lowest
+/// first: one for `Not`; a vector of one bit and two of one width for `Mux`; a vector and a number for a shift
+/// or a turn; and else two vectors of one width. `Full` comes exactly where one of the steps has no place for its
+/// gate, and `Memory` for want of memory.
 pub fn low_op<A: Algebra>(
     alloc: Global,
     alg: &mut A,

@@ -1,3 +1,4 @@
+ghost use Rattle.std.specs.Prelude.{◌≡◌, ◌&&◌, Ok};
 ghost use Rattle.lola_alg.specs.Plain.{plain_calls, plain_meaning, plain_law};
 
 use crate::algebra::{AlgError, Algebra};
@@ -25,7 +26,10 @@ impl Algebra for Plain {
         !a
     }
 
-    fn and(&mut self, a: bool, b: bool) -> Result<bool, AlgError> {
+    /// As the trait says. It is never full and takes no memory.
+    fn and(&mut self, a: bool, b: bool) -> Result<bool, AlgError>
+        ensures { result ≡ Ok (a && b) }
+    {
         Ok(a && b)
     }
 

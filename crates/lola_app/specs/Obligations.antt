@@ -108,8 +108,8 @@ pub record AllHold (S : SourceTree) (T : TableTree) : Type 0 where
 abbrev pub without : List ℕ → List (List ℕ) → List (List ℕ)
 without one names = filter (λ name. not (bytes_eq name one)) names
 
--- the names of the ports and registers that an obligation on a cycle leaves free: the inputs but the
--- clock and RESET, and then the registers, in text order
+-- the names of the inputs that an obligation on a cycle leaves free: all but the clock and RESET, in text
+-- order
 abbrev pub free_inputs : SourceTree → TableTree → List (List ℕ)
 free_inputs S T = without T.reset.port (root_inputs S.modules)
 

@@ -95,7 +95,7 @@ tried_widths subject (which.Reset goal) = but_one subject.reset (vector_widths s
 tried_widths subject (which.End goal) = but_one subject.reset (vector_widths subject.design.inputs.items) (vector_widths subject.design.registers.items)
 
 -- a subject whose cases can be tried: its widths are those of its design, RESET is an input of one bit,
--- and each next value has its register's width
+-- each next value has its register's width, and all have at most 131,072 times 128 bits
 pub record IsTriable (subject : Subject) : Type 0 where
   pub widths : subject.widths.items ≡ leaf_widths subject.design
   pub reset : slice_get (vector_widths subject.design.inputs.items) subject.reset ≡ Some 1

@@ -28,7 +28,9 @@ pub struct Design {
 }
 
 /// The design that a source says. NotBuilt where the source isn't a well formed design of one module
-/// of constants and of IN and OUT ports and registers that are vectors.
+/// of constants and of IN and OUT ports and registers that are vectors of 1 to 128 bits, at most 65,536 in
+/// all, whose values are over IN ports but the clock, registers and constants. Memory where there isn't
+/// enough for the design.
 pub fn read_design(alloc: Global, source: &Source) -> Result<Design, ElabError>
     ensures ok { IfOk result (λ design. Elaborates (source_tree source.now) design) }
     ensures none { result ≡ Err ElabError.NotBuilt → IsSmallSource (source_tree source.now) → ⊥ }

@@ -67,7 +67,7 @@ fn repeated(alloc: Global, part: &[bool], times: usize) -> Result<Seq<bool>, Mem
     Ok(Seq::of(bits))
 }
 
-/// What an operator makes of vectors that suit it.
+/// What an operator makes of vectors that suit it. No lowering over `Plain` is ever full.
 #[tactic(auto, using(crate::proofs::Evaluates::all_known, crate::proofs::Evaluates::op_bits))]
 fn operated(alloc: Global, op: Op, args: &[Seq<bool>]) -> Result<Seq<bool>, Memory>
     requires { Suits op (map length args.now) }

@@ -268,6 +268,7 @@ fn concat_flat(
 
 /// The expression over leaves that an expression means where names stand for leaves and constants.
 /// NotBuilt where it has no width, or holds a name that stands for neither or an element of an array.
+/// Memory where there isn't enough for it.
 #[cycle(flat)]
 pub fn flat_of(
     alloc: Global,

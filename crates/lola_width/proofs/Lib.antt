@@ -3,3 +3,5 @@ pub mod Faults
 pub mod Least
 pub mod Naming
 pub mod Taking
+pub mod Saying
+pub mod Again

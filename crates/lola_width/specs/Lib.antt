@@ -7,3 +7,4 @@ pub mod Order
 pub mod Sized
 pub mod Table
 pub mod WidthFaults
+pub mod Said

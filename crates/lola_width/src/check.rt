@@ -146,8 +146,9 @@ fn first_of(alloc: Global, source: &Source) -> Result<Option<SourceFault>, Memor
 }
 
 /// Whether a source is well sized: no rule of names, widths and assignments is broken. Else the first
-/// fault by stage (names, widths, assignments), then by place, then by the order of the kinds as
-/// `SourceFault` lists them. Memory where there isn't enough for the tables of names.
+/// fault by stage (names, widths, assignments), then by place, then by kind in this order: Doubled, Unknown,
+/// Kind, ArrayShape, Clock; TooWide, Width, IndexRange, PortCount; NotAssigned, AssignedTwice. Memory where
+/// there isn't enough for the tables of names.
 pub fn sizes(alloc: Global, source: &Source) -> Result<(), SourceFault>
     ensures ok { OnOk result (IsWellSized (source_tree source.now)) }
     ensures fault { IfErr result (λ fault. fault ≢ NoMemory → first_fault (source_tree source.now) ≡ Some fault) }

@@ -28,4 +28,4 @@ mod widths;
 
 pub use check::sizes;
 pub use fault::SourceFault;
-pub use laws::answers_first;
+pub use laws::{answers_first, what_is_assigned, what_is_doubled, what_numbers_elements};
