@@ -20,11 +20,11 @@ const TEXT_LIMIT: u64 = 1_048_576;
 /// Ok: every obligation holds, and with them the headline. No: one fails, and the text names its
 /// valuation. BadWords: the words are no command. SourceFault: the design's text has a fault, which is
 /// named with its offset in bytes from 0, or its tokens spell no design, or the design breaks a rule of
-/// names, widths or assignments, or it is outside the forms that are built. TableFault: the other text spells no table in these forms that fits the
-/// design. ReadFault: a read failed. Limit: a file has more than 1,048,576 bytes, an outermost
-/// expression of the design has more than 512 tokens, or an obligation leaves more than 16 bits free.
-/// WriteFault: the sink failed. Memory: memory was wanting, and the text is its line or a front of one.
-/// The store is only read, and the seats stay.
+/// names, widths or assignments, or it is outside the forms that are built. TableFault: the other text
+/// spells no table in these forms that fits the design. ReadFault: a read failed. Limit: a file has more
+/// than 1,048,576 bytes, an outermost expression of the design has more than 512 tokens, or an obligation
+/// leaves more than 16 bits free. WriteFault: the sink failed. Memory: memory was wanting, and the text is
+/// its line or a front of one. The store is only read, and the seats stay.
 pub fn serve<F: Store, O: Sink>(
     alloc: Global,
     words: &[String],

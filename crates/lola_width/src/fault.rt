@@ -21,8 +21,8 @@ pub enum SourceFault {
     /// anywhere else; at the use.
     Clock { at: u32 },
     /// Two widths that must be equal differ; at the operator, the `:=`, the `[`, the `->`, the second
-    /// name of TS, or the first token of the argument. `left` is the width of the left side, of the target or the port,
-    /// or the one that is needed.
+    /// name of TS, or the first token of the argument. `left` is the width of the left side, of the
+    /// target or the port, or the one that is needed.
     Width { at: u32, left: u32, right: u32 },
     /// A width isn't 1 to 128, a number isn't below 2 to its width, a repetition is 0, or a
     /// concatenation has more than 128 bits; at the count, the number or the `{`.
