@@ -151,7 +151,7 @@ total_append [] vs = omega arith
 total_append (w ∷ ws) vs = let h = total_append ws vs in omega (arith, h)
 
 -- values that fit the widths of their names
-fit_within : (E : List ℕ → Option ℕ) (v : Values) (names : List (List ℕ)) (ws : List ℕ) → map (λ (w : ℕ). Some w) ws ≡ map E names → ((name : List ℕ) → IsIn name names → FitsIn (E name) (v (name ∷ []))) →
+fit_within : (E : List ℕ → Option ℕ) (v : Values) (names : List (List ℕ)) (ws : List ℕ) → map (λ (w : ℕ). Some w) ws ≡ map E names → ((name : List ℕ) → IsIn name names → FitsIn (E name) (v (name ∷ []) 0)) →
     AreWithin ws (values_of v names)
 fit_within E v [] [] e fit = tt
 fit_within E v [] (w ∷ ws) e fit = absurd (let f : length (map (λ (w : ℕ). Some w) (w ∷ ws)) ≡ 0 = ap length e in omega (arith, f))
@@ -159,7 +159,7 @@ fit_within E v (name ∷ names) [] e fit = absurd (let f : 0 ≡ length (map E (
 fit_within E v (name ∷ names) (w ∷ ws) e fit =
     let head : Some w ≡ E name = cc in
     let tail : map (λ (w : ℕ). Some w) ws ≡ map E names = cc in
-    (subst (λ (o : Option ℕ). FitsIn o (v (name ∷ []))) (sym head) (fit name (inl refl)), fit_within E v names ws tail (λ x among. fit x (inr among)))
+    (subst (λ (o : Option ℕ). FitsIn o (v (name ∷ []) 0)) (sym head) (fit name (inl refl)), fit_within E v names ws tail (λ x among. fit x (inr among)))
 
 -- and the other way round
 within_fit : (E : List ℕ → Option ℕ) (names : List (List ℕ)) (ws ns : List ℕ) → map (λ (w : ℕ). Some w) ws ≡ map E names → AreWithin ws ns → (name : List ℕ) → IsIn name names → FitsIn (E name) (value_under names ns name)
@@ -230,7 +230,7 @@ cycle_values : (S : SourceTree) (small : IsSmallSource S) (s inp v : Values) →
 cycle_values S small s inp v cycle =
     let inputs = input_names small.root in
     let registers = register_names small.root.locals in
-    map-append (λ (name : List ℕ). v (name ∷ [])) inputs registers
+    map-append (λ (name : List ℕ). v (name ∷ []) 0) inputs registers
     ∙ ap₂ (λ (x y : List ℕ). x ++ y)
     (values_agree v inp inputs (λ name among. let i = inputs_lead S small name among in cycle.inputs (name ∷ []) i.0 i.1))
     (values_agree v s registers (λ name among. let r = registers_lead S small name among in cycle.registers (name ∷ []) r.0 r.1))
@@ -263,19 +263,19 @@ module _ (S : SourceTree) (d : Design) (made : Elaborates S d) where
   roots_width = ap root_width (sym made.small.only)
 
   -- the values of a state and an input fit their names
-  state_fits : (s : Values) → IsState S s → (name : List ℕ) → IsIn name (vector_names d.registers.items) → FitsIn (width_of m name) (s (name ∷ []))
+  state_fits : (s : Values) → IsState S s → (name : List ℕ) → IsIn name (vector_names d.registers.items) → FitsIn (width_of m name) (s (name ∷ []) 0)
   state_fits s state name among =
       let r = registers_lead S made.small name (subst (λ (xs : List (List ℕ)). IsIn name xs) made.registers among) in
-      subst (λ (o : Option ℕ). FitsIn o (s (name ∷ []))) (sym (register_typed m made.small.small name r.1.clock r.0 (named r.1)))
+      subst (λ (o : Option ℕ). FitsIn o (s (name ∷ []) 0)) (sym (register_typed m made.small.small name r.1.clock r.0 (named r.1)))
       (state m here (name ∷ []) r.0 r.1)
     where
       named : {type : Shape} (r : IsRegister S (name ∷ []) type) → IsRegisterOf m name r.clock type
       named {type = type} r = let same : r.name ≡ name = let e : name ∷ [] ≡ r.name ∷ [] = r.leads in cc in subst (λ (n : List ℕ). IsRegisterOf m n r.clock type) same (register_here S made.small (name ∷ []) type r)
 
-  given_fits : (inp : Values) → IsGiven S inp → (name : List ℕ) → IsIn name (vector_names d.inputs.items) → FitsIn (width_of m name) (inp (name ∷ []))
+  given_fits : (inp : Values) → IsGiven S inp → (name : List ℕ) → IsIn name (vector_names d.inputs.items) → FitsIn (width_of m name) (inp (name ∷ []) 0)
   given_fits inp given name among =
       let i = inputs_lead S made.small name (subst (λ (xs : List (List ℕ)). IsIn name xs) made.inputs among) in
-      subst (λ (o : Option ℕ). FitsIn o (inp (name ∷ []))) (sym (input_typed m made.small.small name i.0 (named i.1)))
+      subst (λ (o : Option ℕ). FitsIn o (inp (name ∷ []) 0)) (sym (input_typed m made.small.small name i.0 (named i.1)))
       (given m here (name ∷ []) i.0 i.1)
     where
       named : {type : Shape} (i : IsInput S (name ∷ []) type) → IsInputOf m name type
@@ -289,7 +289,7 @@ module _ (S : SourceTree) (d : Design) (made : Elaborates S d) where
       let among : IsIn r.name names = subst (λ (xs : List (List ℕ)). IsIn r.name xs) (sym made.registers) (register_listed m r.name r.clock type g) in
       let fits : FitsIn (width_of m r.name) (value_under names ns r.name) = within_fit (width_of m) names (vector_widths d.registers.items) ns registers_wide within r.name among in
       let typed : FitsIn (vector_width (names_of m) (Some type)) (value_under names ns r.name) = subst (λ (o : Option ℕ). FitsIn o (value_under names ns r.name)) (register_typed m made.small.small r.name r.clock type g) fits in
-      subst (λ (p : Path). FitsIn (vector_width (names_of n) (Some type)) (valued names ns p)) (sym r.leads)
+      subst (λ (p : Path). FitsIn (vector_width (names_of n) (Some type)) (valued names ns p 0)) (sym r.leads)
       (subst (λ (k : ModuleTree). FitsIn (vector_width (names_of k) (Some type)) (value_under names ns r.name)) (sym (root_is S m n made.small.only is_root)) typed)
 
   valued_given : (ns : List ℕ) → AreWithin (vector_widths d.inputs.items) ns → IsGiven S (valued (vector_names d.inputs.items) ns)
@@ -299,7 +299,7 @@ module _ (S : SourceTree) (d : Design) (made : Elaborates S d) where
       let among : IsIn i.name names = subst (λ (xs : List (List ℕ)). IsIn i.name xs) (sym made.inputs) (input_listed m i.name type g) in
       let fits : FitsIn (width_of m i.name) (value_under names ns i.name) = within_fit (width_of m) names (vector_widths d.inputs.items) ns inputs_wide within i.name among in
       let typed : FitsIn (vector_width (names_of m) (Some type)) (value_under names ns i.name) = subst (λ (o : Option ℕ). FitsIn o (value_under names ns i.name)) (input_typed m made.small.small i.name type g) fits in
-      subst (λ (p : Path). FitsIn (vector_width (names_of n) (Some type)) (valued names ns p)) (sym i.leads)
+      subst (λ (p : Path). FitsIn (vector_width (names_of n) (Some type)) (valued names ns p 0)) (sym i.leads)
       (subst (λ (k : ModuleTree). FitsIn (vector_width (names_of k) (Some type)) (value_under names ns i.name)) (sym (root_is S m n made.small.only is_root)) typed)
 
   inputs_apart : AreDistinct (vector_names d.inputs.items)

@@ -119,17 +119,17 @@ module _ (S : SourceTree) (T : TableTree) (subject : Subject) (fit : Fitting S T
   abbrev pub all : Values → Values → List ℕ
   all s inp = input_numbers inp ++ register_numbers s
 
-  active_is : (inp : Values) → IsActive T inp → inp (T.reset.port ∷ []) ≡ bit_number claim.active
+  active_is : (inp : Values) → IsActive T inp → inp (T.reset.port ∷ []) 0 ≡ bit_number claim.active
   active_is inp active = active ∙ active_bit T.reset ∙ ap bit_number (sym is.active)
 
-  idle_is : (inp : Values) → IsIdle T inp → inp (T.reset.port ∷ []) ≡ bit_number (not claim.active)
+  idle_is : (inp : Values) → IsIdle T inp → inp (T.reset.port ∷ []) 0 ≡ bit_number (not claim.active)
   idle_is inp idle = idle ∙ idle_bit T.reset ∙ ap (λ (b : Bool). bit_number (not b)) (sym is.active)
 
   -- the free values of a cycle
   abbrev pub free : Valuation → List ℕ
   free w = values_of w.input (without T.reset.port (root_inputs S.modules)) ++ values_of w.state (root_registers S.modules)
 
-  all_are : (w : Valuation) (value : ℕ) → w.input (T.reset.port ∷ []) ≡ value → all w.state w.input ≡ with_reset subject.reset value (free w)
+  all_are : (w : Valuation) (value : ℕ) → w.input (T.reset.port ∷ []) 0 ≡ value → all w.state w.input ≡ with_reset subject.reset value (free w)
   all_are w value at =
       put_in w.input input_names (register_numbers w.state) T.reset.port subject.reset value (free w) does.inputs_distinct fit.at at
       (ap₂ (λ (xs ys : List (List ℕ)). values_of w.input (without T.reset.port xs) ++ values_of w.state ys) (sym does.inputs_are) (sym does.registers_are))
@@ -146,7 +146,7 @@ module _ (S : SourceTree) (T : TableTree) (subject : Subject) (fit : Fitting S T
       ∙ ap (map bit_number) (sym apart))
 
   seen_inputs : (inp : Values) → length (values_of inp (interface_in claim.face).inputs) ≡ length claim.face.inputs.items
-  seen_inputs inp = length_map (λ (name : List ℕ). inp (name ∷ [])) (interface_in claim.face).inputs ∙ length_map string_bytes claim.face.inputs.items
+  seen_inputs inp = length_map (λ (name : List ℕ). inp (name ∷ []) 0) (interface_in claim.face).inputs ∙ length_map string_bytes claim.face.inputs.items
 
   after_are : (s inp v s' : Values) → IsState S s → IsGiven S inp → Cycle S s inp v → Next S v s' → AreLeaves (interface_in claim.face) s' inp (leaves_after subject (all s inp))
   after_are s inp v s' suits given cycle next =
@@ -322,7 +322,7 @@ module _ (S : SourceTree) (T : TableTree) (subject : Subject) (fit : Fitting S T
   reset_place : subject.reset < length input_widths
   reset_place = slice_get_within input_widths subject.reset 1 fit.bit
 
-  cycle_within : (w : Valuation) (value : ℕ) → IsState S w.state → IsGiven S w.input → w.input (T.reset.port ∷ []) ≡ value → AreWithin (but_one subject.reset input_widths register_widths) (free w)
+  cycle_within : (w : Valuation) (value : ℕ) → IsState S w.state → IsGiven S w.input → w.input (T.reset.port ∷ []) 0 ≡ value → AreWithin (but_one subject.reset input_widths register_widths) (free w)
   cycle_within w value suits given at =
       let whole : AreWithin (input_widths ++ register_widths) (all w.state w.input) =
       within_both input_widths register_widths (input_numbers w.input) (register_numbers w.state) (does.given_within w.input given) (does.state_within w.state suits) in
@@ -341,7 +341,7 @@ module _ (S : SourceTree) (T : TableTree) (subject : Subject) (fit : Fitting S T
 
   -- a state and an input with given numbers
   cycle_valuation : (bit : Bool) (ns : List ℕ) → AreWithin (but_one subject.reset input_widths register_widths) ns →
-      (w : Valuation) × IsState S w.state × IsGiven S w.input × (w.input (T.reset.port ∷ []) ≡ bit_number bit) × (free w ≡ ns)
+      (w : Valuation) × IsState S w.state × IsGiven S w.input × (w.input (T.reset.port ∷ []) 0 ≡ bit_number bit) × (free w ≡ ns)
   cycle_valuation bit ns within =
       let put : AreWithin (input_widths ++ register_widths) (with_reset subject.reset (bit_number bit) ns) =
       within_put input_widths register_widths ns subject.reset (bit_number bit) fit.bit (bit_low bit) within in
@@ -367,10 +367,10 @@ module _ (S : SourceTree) (T : TableTree) (subject : Subject) (fit : Fitting S T
           let taken : length (take subject.reset input_widths) ≡ subject.reset = length-take-le subject.reset input_widths (let p = reset_place in omega (arith, p)) in
           omega (arith, long, parts, taken)
 
-  is_active : (inp : Values) → inp (T.reset.port ∷ []) ≡ bit_number claim.active → IsActive T inp
+  is_active : (inp : Values) → inp (T.reset.port ∷ []) 0 ≡ bit_number claim.active → IsActive T inp
   is_active inp at = at ∙ ap bit_number is.active ∙ sym (active_bit T.reset)
 
-  is_idle : (inp : Values) → inp (T.reset.port ∷ []) ≡ bit_number (not claim.active) → IsIdle T inp
+  is_idle : (inp : Values) → inp (T.reset.port ∷ []) 0 ≡ bit_number (not claim.active) → IsIdle T inp
   is_idle inp at = at ∙ ap (λ (b : Bool). bit_number (not b)) is.active ∙ sym (idle_bit T.reset)
 
   pub reset_spans : (g : Tried) (goal : Goal) → Spans S T subject (reset goal) (which.Reset g)
@@ -393,5 +393,5 @@ module _ (S : SourceTree) (T : TableTree) (subject : Subject) (fit : Fitting S T
     where
       one_number : (ns : List ℕ) → AreWithin (1 ∷ []) ns → (w : Valuation) × IsValuation S T cover w × (free_values S T cover w ≡ ns)
       one_number [] within = absurd within
-      one_number (n ∷ []) within = (record { word = n; state = λ path. 0; input = λ path. 0 }, within.0, refl)
+      one_number (n ∷ []) within = (record { word = n; state = λ path n. 0; input = λ path n. 0 }, within.0, refl)
       one_number (n ∷ m ∷ ns) within = absurd within.1

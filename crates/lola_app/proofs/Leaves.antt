@@ -54,8 +54,8 @@ seen_are v [] within = refl
 seen_are v (x ∷ xs) within = elim (either (nat_eq x.width 1)) [
   | inl e ↦
       let one : x.width ≡ 1 = equal_is x.width 1 e in
-      let below : v (string_bytes x.name ∷ []) < 2 ^ 1 = subst (λ (k : ℕ). v (string_bytes x.name ∷ []) < 2 ^ k) one within.0 in
-      rw e (ap₂ (λ (n : ℕ) (ns : List ℕ). n ∷ ns) (bit_back (v (string_bytes x.name ∷ [])) (omega arith)) (seen_are v xs within.1))
+      let below : v (string_bytes x.name ∷ []) 0 < 2 ^ 1 = subst (λ (k : ℕ). v (string_bytes x.name ∷ []) 0 < 2 ^ k) one within.0 in
+      rw e (ap₂ (λ (n : ℕ) (ns : List ℕ). n ∷ ns) (bit_back (v (string_bytes x.name ∷ []) 0) (omega arith)) (seen_are v xs within.1))
   | inr e ↦ rw e (seen_are v xs within.1)
 ]
 
@@ -69,7 +69,7 @@ seen_append (w ∷ ws) vs (n ∷ ns) ms long = elim (either (nat_eq w 1)) [
 ]
 
 -- two valuations that agree on names have the same values of them
-pub values_agree : (v w : Values) (names : List (List ℕ)) → ((name : List ℕ) → IsIn name names → v (name ∷ []) ≡ w (name ∷ [])) → values_of v names ≡ values_of w names
+pub values_agree : (v w : Values) (names : List (List ℕ)) → ((name : List ℕ) → IsIn name names → v (name ∷ []) 0 ≡ w (name ∷ []) 0) → values_of v names ≡ values_of w names
 values_agree v w [] same = refl
 values_agree v w (name ∷ names) same =
     ap₂ (λ (n : ℕ) (ns : List ℕ). n ∷ ns) (same name (inl refl)) (values_agree v w names (λ x among. same x (inr among)))
@@ -132,7 +132,7 @@ without_absent one (name ∷ names) absent =
 
 -- the value of one name put in at its place, or taken out there
 pub put_in : (v : Values) (names : List (List ℕ)) (others : List ℕ) (one : List ℕ) (place value : ℕ) (ns : List ℕ) → AreDistinct names → IsAt names place one →
-    v (one ∷ []) ≡ value → values_of v (without one names) ++ others ≡ ns → values_of v names ++ others ≡ with_reset place value ns
+    v (one ∷ []) 0 ≡ value → values_of v (without one names) ++ others ≡ ns → values_of v names ++ others ≡ with_reset place value ns
 put_in v [] others one place value ns distinct at is free = absurd (let f : None ≡ Some one = at in cc)
 put_in v (name ∷ names) others one zero value ns distinct at is free =
     let same : name ≡ one = let f : Some name ≡ Some one = at in cc in
@@ -140,38 +140,38 @@ put_in v (name ∷ names) others one zero value ns distinct at is free =
     let front : bytes_eq name one ≡ true = same_name name one same in
     let left : without one (name ∷ names) ≡ names = rw front (without_absent one names absent) in
     let rest : values_of v names ++ others ≡ ns = ap (λ xs. values_of v xs ++ others) (sym left) ∙ free in
-    ap₂ (λ (x : ℕ) (xs : List ℕ). x ∷ xs) (ap (λ x. v (x ∷ [])) same ∙ is) rest
+    ap₂ (λ (x : ℕ) (xs : List ℕ). x ∷ xs) (ap (λ x. v (x ∷ []) 0) same ∙ is) rest
 put_in v (name ∷ names) others one (suc place) value [] distinct at is free =
     let other : bytes_eq name one ≡ false = other_name name one (λ e. distinct.0 (subst (λ x. IsIn x names) (sym e) (at_is_in names place one at))) in
     let left : without one (name ∷ names) ≡ name ∷ without one names = rw other refl in
-    let f : v (name ∷ []) ∷ (values_of v (without one names) ++ others) ≡ [] = ap (λ xs. values_of v xs ++ others) (sym left) ∙ free in
+    let f : v (name ∷ []) 0 ∷ (values_of v (without one names) ++ others) ≡ [] = ap (λ xs. values_of v xs ++ others) (sym left) ∙ free in
     cc
 put_in v (name ∷ names) others one (suc place) value (n ∷ ns) distinct at is free =
     let other : bytes_eq name one ≡ false = other_name name one (λ e. distinct.0 (subst (λ x. IsIn x names) (sym e) (at_is_in names place one at))) in
     let left : without one (name ∷ names) ≡ name ∷ without one names = rw other refl in
-    let f : v (name ∷ []) ∷ (values_of v (without one names) ++ others) ≡ n ∷ ns = ap (λ xs. values_of v xs ++ others) (sym left) ∙ free in
-    let head : v (name ∷ []) ≡ n = cc in
+    let f : v (name ∷ []) 0 ∷ (values_of v (without one names) ++ others) ≡ n ∷ ns = ap (λ xs. values_of v xs ++ others) (sym left) ∙ free in
+    let head : v (name ∷ []) 0 ≡ n = cc in
     let tail : values_of v (without one names) ++ others ≡ ns = cc in
     ap₂ (λ (x : ℕ) (xs : List ℕ). x ∷ xs) head (put_in v names others one place value ns distinct.1 at is tail)
 
 pub take_out : (v : Values) (names : List (List ℕ)) (others : List ℕ) (one : List ℕ) (place value : ℕ) (ns : List ℕ) → AreDistinct names → IsAt names place one →
-    place ≤ length ns → values_of v names ++ others ≡ with_reset place value ns → (v (one ∷ []) ≡ value) × (values_of v (without one names) ++ others ≡ ns)
+    place ≤ length ns → values_of v names ++ others ≡ with_reset place value ns → (v (one ∷ []) 0 ≡ value) × (values_of v (without one names) ++ others ≡ ns)
 take_out v [] others one place value ns distinct at within all = absurd (let f : None ≡ Some one = at in cc)
 take_out v (name ∷ names) others one zero value ns distinct at within all =
     let same : name ≡ one = let f : Some name ≡ Some one = at in cc in
     let absent : IsIn one names → ⊥ = subst (λ x. IsIn x names → ⊥) same distinct.0 in
     let front : bytes_eq name one ≡ true = same_name name one same in
     let left : without one (name ∷ names) ≡ names = rw front (without_absent one names absent) in
-    let f : v (name ∷ []) ∷ (values_of v names ++ others) ≡ value ∷ ns = all in
-    let head : v (name ∷ []) ≡ value = cc in
+    let f : v (name ∷ []) 0 ∷ (values_of v names ++ others) ≡ value ∷ ns = all in
+    let head : v (name ∷ []) 0 ≡ value = cc in
     let tail : values_of v names ++ others ≡ ns = cc in
-    (ap (λ x. v (x ∷ [])) (sym same) ∙ head, ap (λ xs. values_of v xs ++ others) left ∙ tail)
+    (ap (λ x. v (x ∷ []) 0) (sym same) ∙ head, ap (λ xs. values_of v xs ++ others) left ∙ tail)
 take_out v (name ∷ names) others one (suc place) value [] distinct at within all = absurd (omega arith)
 take_out v (name ∷ names) others one (suc place) value (n ∷ ns) distinct at within all =
     let other : bytes_eq name one ≡ false = other_name name one (λ e. distinct.0 (subst (λ x. IsIn x names) (sym e) (at_is_in names place one at))) in
     let left : without one (name ∷ names) ≡ name ∷ without one names = rw other refl in
-    let f : v (name ∷ []) ∷ (values_of v names ++ others) ≡ n ∷ with_reset place value ns = all in
-    let head : v (name ∷ []) ≡ n = cc in
+    let f : v (name ∷ []) 0 ∷ (values_of v names ++ others) ≡ n ∷ with_reset place value ns = all in
+    let head : v (name ∷ []) 0 ≡ n = cc in
     let tail : values_of v names ++ others ≡ with_reset place value ns = cc in
     let later = take_out v names others one place value ns distinct.1 at (omega arith) tail in
     (later.0, ap (λ xs. values_of v xs ++ others) left ∙ ap₂ (λ (x : ℕ) (xs : List ℕ). x ∷ xs) head later.1)
@@ -183,7 +183,7 @@ value_under (x ∷ xs) [] name = 0
 value_under (x ∷ xs) (n ∷ ns) name = if bytes_eq x name then n else value_under xs ns name
 
 abbrev pub valued : List (List ℕ) → List ℕ → Values
-valued names ns path = value_under names ns (name_of path)
+valued names ns path n = value_under names ns (name_of path)
 
 pub read_back : (names : List (List ℕ)) (ns : List ℕ) → AreDistinct names → length ns ≡ length names → values_of (valued names ns) names ≡ ns
 read_back [] [] distinct long = refl
@@ -191,7 +191,7 @@ read_back [] (n ∷ ns) distinct long = absurd (omega arith)
 read_back (x ∷ xs) [] distinct long = absurd (omega arith)
 read_back (x ∷ xs) (n ∷ ns) distinct long =
     let here : bytes_eq x x ≡ true = same_name x x refl in
-    let head : valued (x ∷ xs) (n ∷ ns) (x ∷ []) ≡ n = rw here refl in
+    let head : valued (x ∷ xs) (n ∷ ns) (x ∷ []) 0 ≡ n = rw here refl in
     let tail : values_of (valued (x ∷ xs) (n ∷ ns)) xs ≡ values_of (valued xs ns) xs =
     values_agree (valued (x ∷ xs) (n ∷ ns)) (valued xs ns) xs
     (λ name among. let other : bytes_eq x name ≡ false = other_name x name (λ e. distinct.0 (subst (λ y. IsIn y xs) (sym e) among)) in rw other refl) in

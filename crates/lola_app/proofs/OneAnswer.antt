@@ -116,7 +116,7 @@ compared (x ∷ xs) (y ∷ ys) long = heads (cases_lt x y) (cases_lt y x) (compa
 parts_long : (S : SourceTree) (T : TableTree) (w : Valuation) → length (values_of w.input (free_inputs S T) ++ values_of w.state (root_registers S.modules)) ≡ length (free_inputs S T ++ root_registers S.modules)
 parts_long S T w =
     length-append (values_of w.input (free_inputs S T)) (values_of w.state (root_registers S.modules))
-    ∙ ap₂ (λ m n. m + n) (length_map (λ (name : List ℕ). w.input (name ∷ [])) (free_inputs S T)) (length_map (λ (name : List ℕ). w.state (name ∷ [])) (root_registers S.modules))
+    ∙ ap₂ (λ m n. m + n) (length_map (λ (name : List ℕ). w.input (name ∷ []) 0) (free_inputs S T)) (length_map (λ (name : List ℕ). w.state (name ∷ []) 0) (root_registers S.modules))
     ∙ sym (length-append (free_inputs S T) (root_registers S.modules))
 
 values_long : (S : SourceTree) (T : TableTree) (o : Obligation) (w u : Valuation) → length (free_values S T o w) ≡ length (free_values S T o u)

@@ -64,40 +64,40 @@ no_reads scope names leaves bare source r one is = absurd (no_reading scope r ba
 
 -- the values of names at places
 pub place_value : (v : Values) (names : List (List ℕ)) (place : ℕ) (name : List ℕ) (bits : List Bool) → AreBits (values_of v names) bits → IsAt names place name →
-    v (name ∷ []) ≡ bit_number (slice_index_or bits place false)
+    v (name ∷ []) 0 ≡ bit_number (slice_index_or bits place false)
 place_value v [] place name bits are at = absurd (not_none name at)
 place_value v (x ∷ xs) place name [] are at = cc
 place_value v (x ∷ xs) zero name (b ∷ bits) are at =
     let same : x ≡ name = let f : Some x ≡ Some name = at in cc in
-    let head : v (x ∷ []) ≡ bit_number b = cc in
-    ap (λ (y : List ℕ). v (y ∷ [])) (sym same) ∙ head
+    let head : v (x ∷ []) 0 ≡ bit_number b = cc in
+    ap (λ (y : List ℕ). v (y ∷ []) 0) (sym same) ∙ head
 place_value v (x ∷ xs) (suc place) name (b ∷ bits) are at =
     let tail : values_of v xs ≡ map bit_number bits = cc in
     place_value v xs place name bits tail at
 
 -- the value of an input and of a register among the leaves
 pub input_value : (face : Interface) (s inp : Values) (leaves : List Bool) (place : ℕ) (name : List ℕ) → AreLeaves face s inp leaves → IsAt face.inputs place name →
-    inp (name ∷ []) ≡ bit_number (slice_index_or leaves place false)
+    inp (name ∷ []) 0 ≡ bit_number (slice_index_or leaves place false)
 input_value face s inp leaves place name are at = front inp face.inputs (values_of s face.registers) place name leaves are at
   where
     front : (v : Values) (names : List (List ℕ)) (others : List ℕ) (place : ℕ) (name : List ℕ) (bits : List Bool) → AreBits (values_of v names ++ others) bits → IsAt names place name →
-        v (name ∷ []) ≡ bit_number (slice_index_or bits place false)
+        v (name ∷ []) 0 ≡ bit_number (slice_index_or bits place false)
     front v [] others place name bits are at = absurd (not_none name at)
     front v (x ∷ xs) others place name [] are at = cc
     front v (x ∷ xs) others zero name (b ∷ bits) are at =
         let same : x ≡ name = let f : Some x ≡ Some name = at in cc in
-        let head : v (x ∷ []) ≡ bit_number b = cc in
-        ap (λ (y : List ℕ). v (y ∷ [])) (sym same) ∙ head
+        let head : v (x ∷ []) 0 ≡ bit_number b = cc in
+        ap (λ (y : List ℕ). v (y ∷ []) 0) (sym same) ∙ head
     front v (x ∷ xs) others (suc place) name (b ∷ bits) are at =
         let tail : values_of v xs ++ others ≡ map bit_number bits = cc in
         front v xs others place name bits tail at
 
 pub register_value : (face : Interface) (s inp : Values) (leaves : List Bool) (place : ℕ) (name : List ℕ) → AreLeaves face s inp leaves → IsAt face.registers place name →
-    s (name ∷ []) ≡ bit_number (slice_index_or leaves (length face.inputs + place) false)
+    s (name ∷ []) 0 ≡ bit_number (slice_index_or leaves (length face.inputs + place) false)
 register_value face s inp leaves place name are at = back inp face.inputs place name leaves are at
   where
     back : (v : Values) (names : List (List ℕ)) (place : ℕ) (name : List ℕ) (bits : List Bool) → AreBits (values_of v names ++ values_of s face.registers) bits → IsAt face.registers place name →
-        s (name ∷ []) ≡ bit_number (slice_index_or bits (length names + place) false)
+        s (name ∷ []) 0 ≡ bit_number (slice_index_or bits (length names + place) false)
     back v [] place name bits are at = place_value s face.registers place name bits are at ∙ ap (λ n. bit_number (slice_index_or bits n false)) (zero_plus place)
       where
         zero_plus : (n : ℕ) → n ≡ 0 + n
@@ -192,7 +192,7 @@ registers_scope face scope has = record {
         (name, refl, at_is_in face.registers f.0 name f.1)
     found (name ∷ other ∷ more) one some = absurd (not_none one some)
 
-    reads : (s inp : Values) (leaves : List Bool) → AreLeaves face s inp leaves → (path : Path) (one : Reading) → find_path scope.source.items path ≡ Some one → s path ≡ reading_number one leaves
+    reads : (s inp : Values) (leaves : List Bool) → AreLeaves face s inp leaves → (path : Path) (one : Reading) → find_path scope.source.items path ≡ Some one → s path 0 ≡ reading_number one leaves
     reads s inp leaves are [] one some = absurd (not_none one some)
     reads s inp leaves are (name ∷ []) one some =
         let f = leaf_found scope.source.items (length face.inputs) face.registers name one has.source some in
@@ -200,8 +200,8 @@ registers_scope face scope has = record {
     reads s inp leaves are (name ∷ other ∷ more) one some = absurd (not_none one some)
 
 -- the value of a state's row is that of its leaf
-shown_name : (e : Tree) (name : List ℕ) (s : Values) → IsSourceName e name → table_value e (source_names s) ≡ s (name ∷ [])
-shown_name (whole of) name s is = rw is.0 (ap s is.1)
+shown_name : (e : Tree) (name : List ℕ) (s : Values) → IsSourceName e name → table_value e (source_names s) ≡ s (name ∷ []) 0
+shown_name (whole of) name s is = rw is.0 (ap (λ (q : List (List ℕ)). s q 0) is.1)
 shown_name (number n width at) name s is = absurd is
 shown_name (negation e at) name s is = absurd is
 shown_name (binary o a b at) name s is = absurd is

@@ -26,7 +26,7 @@ pub record Shows (T : TableTree) (s : Values) (A : Arch) (word : ℕ) : Type 0 w
 
 -- the value of a port in an input
 abbrev pub port_value : Values → List ℕ → ℕ
-port_value inp port = inp (port ∷ [])
+port_value inp port = inp (port ∷ []) 0
 
 -- RESET has its active value, or hasn't
 abbrev pub IsActive : TableTree → Values → Type 0

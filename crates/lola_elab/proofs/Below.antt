@@ -105,18 +105,18 @@ chosen_fits false x y w a b = b
 
 -- where the values of names fit, those of expressions do
 mutual
-  pub value_fits : (P : Ref → Type 0) (scope : Widths) (read : Ref → ℕ) → ((r : Ref) → P r → (w : ℕ) → scope.width r ≡ Some w → FitsWidth w (or_read (scope.number r) (read r))) →
+  pub value_fits : (P : Ref → Type 0) (scope : Widths) (read : Ref → ℕ → ℕ) → ((r : Ref) → P r → (w : ℕ) → scope.width r ≡ Some w → FitsWidth w (or_read (scope.number r) (read r 0))) →
       (e : Tree) → IsBuilt P e → (w : ℕ) → width scope e ≡ Some w → FitsWidth w (value scope e read)
   value_fits P scope read fit (number n written at) is w e = (number_in n written w e).1
   value_fits P scope read fit (whole of) is w e = fit of is w e
   value_fits P scope read fit (bit of place at) is w e =
-      let x : ℕ = or_read (scope.number of) (read of) in
+      let x : ℕ = or_read (scope.number of) (read of 0) in
       let one = place_one (scope.count place) (scope.width of) w e in
       let low : bit_at x (or_zero (scope.count place)) < 2 ^ 1 = mod_two (x / 2 ^ or_zero (scope.count place)) in
       record { positive = omega (arith, one); at_most = omega (arith, one); below = subst (λ (k : ℕ). bit_at x (or_zero (scope.count place)) < 2 ^ k) (sym one) low }
   value_fits P scope read fit (slice of high low at) is w e =
       let s = slice_is (scope.count high) (scope.count low) (scope.width of) w e in
-      let x : ℕ = or_read (scope.number of) (read of) in
+      let x : ℕ = or_read (scope.number of) (read of 0) in
       let wide = fit of is s.2 s.5 in
       let most : s.2 ≤ 128 = wide.at_most in
       let within : s.0 < s.2 = s.6 in
@@ -154,7 +154,7 @@ mutual
       chosen_fits (nat_eq (value scope test read) 1) (value scope first read) (value scope second read) w
       (value_fits P scope read fit first is.1 w s.0) (value_fits P scope read fit second is.2 w s.1)
 
-  parts_fit : (P : Ref → Type 0) (scope : Widths) (read : Ref → ℕ) → ((r : Ref) → P r → (w : ℕ) → scope.width r ≡ Some w → FitsWidth w (or_read (scope.number r) (read r))) →
+  parts_fit : (P : Ref → Type 0) (scope : Widths) (read : Ref → ℕ → ℕ) → ((r : Ref) → P r → (w : ℕ) → scope.width r ≡ Some w → FitsWidth w (or_read (scope.number r) (read r 0))) →
       (ps : Parts) → AreBuilt P ps → (w : ℕ) → total_width scope ps ≡ Some w → value_of_parts scope ps read < 2 ^ w
   parts_fit P scope read fit no_part is w e = kept 0 w 0 e (omega arith)
   parts_fit P scope read fit (one_part e times behind) is w f =

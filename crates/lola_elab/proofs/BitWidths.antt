@@ -62,17 +62,17 @@ small_width Names widths bits (concat parts at) is = absurd is
 
 -- so `~` of it is 1 less its value
 pub negated_value : (Names : Ref → Type 0) (widths : Widths) → AreBitNames Names widths → (e : Tree) → IsSmallExpr Names e → (at : ℕ) (read : Ref → ℕ) →
-    value widths (negation e at) read ≡ inverted 1 (value widths e read)
-negated_value Names widths bits e is at read = ap (λ (w : Option ℕ). inverted (or_zero w) (value widths e read)) (small_width Names widths bits e is)
+    value widths (negation e at) (λ r n. read r) ≡ inverted 1 (value widths e (λ r n. read r))
+negated_value Names widths bits e is at read = ap (λ (w : Option ℕ). inverted (or_zero w) (value widths e (λ r n. read r))) (small_width Names widths bits e is)
 
 -- and operators are those of bits
 pub both_value : (Names : Ref → Type 0) (widths : Widths) → AreBitNames Names widths → (o : Op) (a b : Tree) → IsSmallExpr Names a → (at : ℕ) (read : Ref → ℕ) →
-    value widths (binary o a b at) read ≡ operate o 1 (value widths a read) (value widths b read)
+    value widths (binary o a b at) (λ r n. read r) ≡ operate o 1 (value widths a (λ r n. read r)) (value widths b (λ r n. read r))
 both_value Names widths bits o a b is at read =
-    ap (λ (w : Option ℕ). operate o (or_zero w) (value widths a read) (value widths b read)) (small_width Names widths bits a is)
+    ap (λ (w : Option ℕ). operate o (or_zero w) (value widths a (λ r n. read r)) (value widths b (λ r n. read r))) (small_width Names widths bits a is)
 
 -- a name has the number that is read
-pub name_value : (Names : Ref → Type 0) (widths : Widths) → AreBitNames Names widths → (r : Ref) → Names r → (read : Ref → ℕ) → value widths (whole r) read ≡ read r
+pub name_value : (Names : Ref → Type 0) (widths : Widths) → AreBitNames Names widths → (r : Ref) → Names r → (read : Ref → ℕ) → value widths (whole r) (λ r n. read r) ≡ read r
 name_value Names widths bits r is read = ap (λ (n : Option ℕ). or_read n (read r)) (bits.number r is)
 
 -- the other value of a bit

@@ -44,32 +44,32 @@ leaf_width m r name e path named = ap (λ (p : List (List ℕ)). entry_width (na
 
 -- in a cycle the inputs, registers and constants have values that fit
 leaf_fits : (S : SourceTree) (m : ModuleTree) (s inp v : Values) → IsRoot S m → IsSmallModule m → IsState S s → IsGiven S inp → Cycle S s inp v → (r : Ref) → IsLeaf m r →
-    (w : ℕ) → (scope_of m).width r ≡ Some w → FitsWidth w (or_read ((scope_of m).number r) (names_at [] v r))
+    (w : ℕ) → (scope_of m).width r ≡ Some w → FitsWidth w (or_read ((scope_of m).number r) (names_at [] v r 0))
 leaf_fits S m s inp v root small state given cycle r (bare, (name, path, inl (inl (type, i)))) w e =
     let is : IsInput S r.path type = record { root = m; is_root = root; name = name; input = i; leads = path } in
     let named = input_entry m small name type i in
     let wide : vector_width (names_of m) (Some type) ≡ Some w = ap (λ (t : Shape). vector_width (names_of m) (Some t)) i.typed ∙ sym (leaf_width m r name (port i.port) path named) ∙ e in
-    let fits = fits_type (names_of m) type w (inp r.path) wide (given m root r.path type is) in
-    subst (λ (n : ℕ). FitsWidth w n) (sym (ap (λ (o : Option ℕ). or_read o (v r.path)) (leaf_number m r name (port i.port) path named) ∙ cycle.inputs r.path type is)) fits
+    let fits = fits_type (names_of m) type w (inp r.path 0) wide (given m root r.path type is) in
+    subst (λ (n : ℕ). FitsWidth w n) (sym (ap (λ (o : Option ℕ). or_read o (v r.path 0)) (leaf_number m r name (port i.port) path named) ∙ cycle.inputs r.path type is)) fits
 leaf_fits S m s inp v root small state given cycle r (bare, (name, path, inl (inr (clock, type, g)))) w e =
     let is : IsRegister S r.path type = record { root = m; is_root = root; name = name; clock = clock; register = g; leads = path } in
     let named = register_entry m small name clock type g in
     let wide : vector_width (names_of m) (Some type) ≡ Some w =
     sym (ap (λ (k : LocalKind). vector_width (names_of m) (kind_shape k)) g.kind) ∙ sym (leaf_width m r name (local g.local) path named) ∙ e in
-    let fits = fits_type (names_of m) type w (s r.path) wide (state m root r.path type is) in
-    subst (λ (n : ℕ). FitsWidth w n) (sym (ap (λ (o : Option ℕ). or_read o (v r.path)) (leaf_number m r name (local g.local) path named) ∙ cycle.registers r.path type is)) fits
+    let fits = fits_type (names_of m) type w (s r.path 0) wide (state m root r.path type is) in
+    subst (λ (n : ℕ). FitsWidth w n) (sym (ap (λ (o : Option ℕ). or_read o (v r.path 0)) (leaf_number m r name (local g.local) path named) ∙ cycle.registers r.path type is)) fits
 leaf_fits S m s inp v root small state given cycle r (bare, (name, path, inr (c, is, same))) w e =
     let named : names_of m name ≡ Some (constant c) = ap (names_of m) same ∙ const_named m c small.distinct is in
     let fits = (number_in c.value c.width w (sym (leaf_width m r name (constant c) path named) ∙ e)).1 in
-    subst (λ (n : ℕ). FitsWidth w n) (sym (ap (λ (o : Option ℕ). or_read o (names_at [] v r)) (leaf_number m r name (constant c) path named))) fits
+    subst (λ (n : ℕ). FitsWidth w n) (sym (ap (λ (o : Option ℕ). or_read o (names_at [] v r 0)) (leaf_number m r name (constant c) path named))) fits
 
 -- what a small assignment gives a register fits its type
 next_fits : (S : SourceTree) (m : ModuleTree) (s inp v s' : Values) → IsRoot S m → IsSmallModule m → IsState S s → IsGiven S inp → Cycle S s inp v → (t : StmtTree) → IsSmallStmt m t → NextBy m [] v s' t →
-    (clock : List ℕ) (type : Shape) → IsRegisterOf m (target_of t) clock type → Suits (names_of m) type (s' (target_of t ∷ []))
+    (clock : List ℕ) (type : Shape) → IsRegisterOf m (target_of t) clock type → Suits (names_of m) type (s' (target_of t ∷ []) 0)
 next_fits S m s inp v s' root small state given cycle (assignment name None e at equals) (target, built, widths) by clock type g =
     let fits = value_fits (IsLeaf m) (scope_of m) (names_at [] v) (leaf_fits S m s inp v root small state given cycle) e built widths.wide widths.value_is in
     let wide : vector_width (names_of m) (Some type) ≡ Some widths.wide = sym (register_width m small name clock type g) ∙ widths.name_is in
-    subst (λ (o : Option ℕ). FitsIn o (s' (name ∷ []))) (sym wide) (subst (λ (n : ℕ). n < 2 ^ widths.wide) (sym (by clock type g)) fits.below)
+    subst (λ (o : Option ℕ). FitsIn o (s' (name ∷ []) 0)) (sym wide) (subst (λ (n : ℕ). n < 2 ^ widths.wide) (sym (by clock type g)) fits.below)
 next_fits S m s inp v s' root small state given cycle (assignment name (Some place) e at equals) is by clock type g = absurd is
 next_fits S m s inp v s' root small state given cycle (call name args at) is by clock type g = absurd is
 next_fits S m s inp v s' root small state given cycle (pad io inner drive release at) is by clock type g = absurd is
@@ -85,7 +85,7 @@ next_state S s inp v s' small state given cycle next n at_root path type is =
     let assigned = from_map target_of is.name m.body (small.small.each is.name (inr (is.clock, type, g))) in
     let t = assigned.0 in
     let g' : IsRegisterOf m (target_of t) is.clock type = subst (λ (n : List ℕ). IsRegisterOf m n is.clock type) assigned.2 g in
-    let fits : Suits (names_of m) type (s' (target_of t ∷ [])) =
+    let fits : Suits (names_of m) type (s' (target_of t ∷ []) 0) =
     next_fits S m s inp v s' root small.small state given cycle t (of_all (IsSmallStmt m) t m.body small.small.statements assigned.1) (next m root t assigned.1) is.clock type g' in
     let there : target_of t ∷ [] ≡ path = cc in
-    subst (λ (k : ModuleTree). Suits (names_of k) type (s' path)) (sym here) (subst (λ (p : Path). Suits (names_of m) type (s' p)) there fits)
+    subst (λ (k : ModuleTree). Suits (names_of k) type (s' path 0)) (sym here) (subst (λ (p : Path). Suits (names_of m) type (s' p 0)) there fits)

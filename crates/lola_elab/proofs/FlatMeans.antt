@@ -59,7 +59,7 @@ leaf_is names r n w vectors e =
       at_most = fits.1;
       tree_width = λ scope widths are. (are.leaf r n w e).0;
       leaf_width = λ scope widths are. (are.leaf r n w e).2;
-      number = λ scope widths are read numbers reads. sym (ap (λ (c : Option ℕ). or_read c (read r)) (are.leaf r n w e).1 ∙ reads r n w e);
+      number = λ scope widths are read numbers reads. sym (ap (λ (c : Option ℕ). or_read c (read r 0)) (are.leaf r n w e).1 ∙ reads r n w e);
     }
 
 pub constant_is : (names : Meanings) (r : Ref) (w v : ℕ) → AreVectors names → meaning_of names r ≡ Some (meaning.Constant w v) → IsFlatOf names (whole r) (Number w v) w
@@ -71,7 +71,7 @@ constant_is names r w v vectors e =
       at_most = fits.at_most;
       tree_width = λ scope widths are. (are.constant r w v e).0;
       leaf_width = λ scope widths are. chosen_yes (nat_lt v (2 ^ w)) w (below_is v (2 ^ w) fits.below);
-      number = λ scope widths are read numbers reads. sym (ap (λ (c : Option ℕ). or_read c (read r)) (are.constant r w v e).1);
+      number = λ scope widths are read numbers reads. sym (ap (λ (c : Option ℕ). or_read c (read r 0)) (are.constant r w v e).1);
     }
 
 pub no_name : (names : Meanings) (r : Ref) → meaning_of names r ≡ None → HasMeaning names r → ⊥

@@ -22,7 +22,7 @@ use Rattle.lola_elab.proofs.Entries.{const_named, entry_names}
 
 -- expressions have one value where their names have
 mutual
-  pub value_agrees : (P : Ref → Type 0) (widths : Widths) (v w : Ref → ℕ) → ((r : Ref) → P r → or_read (widths.number r) (v r) ≡ or_read (widths.number r) (w r)) →
+  pub value_agrees : (P : Ref → Type 0) (widths : Widths) (v w : Ref → ℕ → ℕ) → ((r : Ref) → P r → or_read (widths.number r) (v r 0) ≡ or_read (widths.number r) (w r 0)) →
       (e : Tree) → IsBuilt P e → value widths e v ≡ value widths e w
   value_agrees P widths v w same (number n written at) is = refl
   value_agrees P widths v w same (whole of) is = same of is
@@ -37,7 +37,7 @@ mutual
       ap (λ x. cond (nat_eq x 1) (value widths first v) (value widths second v)) (value_agrees P widths v w same test is.0)
       ∙ ap₂ (λ x y. cond (nat_eq (value widths test w) 1) x y) (value_agrees P widths v w same first is.1) (value_agrees P widths v w same second is.2)
 
-  parts_agree : (P : Ref → Type 0) (widths : Widths) (v w : Ref → ℕ) → ((r : Ref) → P r → or_read (widths.number r) (v r) ≡ or_read (widths.number r) (w r)) →
+  parts_agree : (P : Ref → Type 0) (widths : Widths) (v w : Ref → ℕ → ℕ) → ((r : Ref) → P r → or_read (widths.number r) (v r 0) ≡ or_read (widths.number r) (w r 0)) →
       (ps : Parts) → AreBuilt P ps → value_of_parts widths ps v ≡ value_of_parts widths ps w
   parts_agree P widths v w same no_part is = refl
   parts_agree P widths v w same (one_part e times behind) is =
@@ -73,20 +73,20 @@ assigned_not widths (u ∷ us) v other name none =
 
 -- a number for each name, as one for each path
 abbrev by_name : (List ℕ → ℕ) → Values
-by_name f [] = 0
-by_name f (name ∷ []) = f name
-by_name f (name ∷ other ∷ more) = 0
+by_name f [] n = 0
+by_name f (name ∷ []) n = f name
+by_name f (name ∷ other ∷ more) n = 0
 
 -- the values that are there before a cycle: a state's for registers, and an input's for the others
 abbrev given_value : ModuleTree → Values → Values → List ℕ → ℕ
-given_value m s inp name = cond (is_among (register_names m.locals) name) (s (name ∷ [])) (inp (name ∷ []))
+given_value m s inp name = cond (is_among (register_names m.locals) name) (s (name ∷ []) 0) (inp (name ∷ []) 0)
 
 abbrev before : ModuleTree → Values → Values → Values
 before m s inp = by_name (given_value m s inp)
 
 -- the values in a cycle
 abbrev cycle_value : ModuleTree → Values → Values → List ℕ → ℕ
-cycle_value m s inp name = cond (is_among (register_names m.locals) name) (s (name ∷ [])) (assigned (scope_of m) m.body (before m s inp) (inp (name ∷ [])) name)
+cycle_value m s inp name = cond (is_among (register_names m.locals) name) (s (name ∷ []) 0) (assigned (scope_of m) m.body (before m s inp) (inp (name ∷ []) 0) name)
 
 abbrev in_cycle : ModuleTree → Values → Values → Values
 in_cycle m s inp = by_name (cycle_value m s inp)
@@ -113,30 +113,30 @@ constant_is : (m : ModuleTree) → IsSmallModule m → (r : Ref) (c : Const) →
 constant_is m small r c is path = ap (λ (p : List (List ℕ)). constant_number (Names.names_of m (first_name p))) path ∙ ap constant_number (const_named m c small.distinct is)
 
 -- the values at a register and at an input
-at_register : (m : ModuleTree) (s inp : Values) (name clock : List ℕ) (type : Shape) → IsRegisterOf m name clock type → cycle_value m s inp name ≡ s (name ∷ [])
+at_register : (m : ModuleTree) (s inp : Values) (name clock : List ℕ) (type : Shape) → IsRegisterOf m name clock type → cycle_value m s inp name ≡ s (name ∷ []) 0
 at_register m s inp name clock type r =
-    cond-true (is_among (register_names m.locals) name) (s (name ∷ [])) (assigned (scope_of m) m.body (before m s inp) (inp (name ∷ [])) name) (a_register m name clock type r)
+    cond-true (is_among (register_names m.locals) name) (s (name ∷ []) 0) (assigned (scope_of m) m.body (before m s inp) (inp (name ∷ []) 0) name) (a_register m name clock type r)
 
-at_other : (m : ModuleTree) (s inp : Values) (name : List ℕ) → ((clock : List ℕ) (type : Shape) → IsRegisterOf m name clock type → ⊥) → cycle_value m s inp name ≡ assigned (scope_of m) m.body (before m s inp) (inp (name ∷ [])) name
+at_other : (m : ModuleTree) (s inp : Values) (name : List ℕ) → ((clock : List ℕ) (type : Shape) → IsRegisterOf m name clock type → ⊥) → cycle_value m s inp name ≡ assigned (scope_of m) m.body (before m s inp) (inp (name ∷ []) 0) name
 at_other m s inp name none =
-    cond-false (is_among (register_names m.locals) name) (s (name ∷ [])) (assigned (scope_of m) m.body (before m s inp) (inp (name ∷ [])) name) (no_register m name none)
+    cond-false (is_among (register_names m.locals) name) (s (name ∷ []) 0) (assigned (scope_of m) m.body (before m s inp) (inp (name ∷ []) 0) name) (no_register m name none)
 
-at_input : (m : ModuleTree) (s inp : Values) (name : List ℕ) (type : Shape) → IsSmallModule m → IsInputOf m name type → cycle_value m s inp name ≡ inp (name ∷ [])
+at_input : (m : ModuleTree) (s inp : Values) (name : List ℕ) (type : Shape) → IsSmallModule m → IsInputOf m name type → cycle_value m s inp name ≡ inp (name ∷ []) 0
 at_input m s inp name type small i =
     at_other m s inp name (λ clock other r. input_no_target m name type (names_distinct m small) i (inr (clock, other, r)))
-    ∙ assigned_not (scope_of m) m.body (before m s inp) (inp (name ∷ [])) name (λ is.
+    ∙ assigned_not (scope_of m) m.body (before m s inp) (inp (name ∷ []) 0) name (λ is.
     let found = from_map target_of name m.body is in
     let t = found.0 in
     input_no_target m name type (names_distinct m small) i
     (subst (λ (n : List ℕ). IsTarget m n) (sym found.2) (assigned_target m t (of_all (IsSmallStmt m) t m.body small.statements found.1))))
 
 -- the cycle has the values from before at inputs and registers
-before_register : (m : ModuleTree) (s inp : Values) (name clock : List ℕ) (type : Shape) → IsRegisterOf m name clock type → given_value m s inp name ≡ s (name ∷ [])
-before_register m s inp name clock type r = cond-true (is_among (register_names m.locals) name) (s (name ∷ [])) (inp (name ∷ [])) (a_register m name clock type r)
+before_register : (m : ModuleTree) (s inp : Values) (name clock : List ℕ) (type : Shape) → IsRegisterOf m name clock type → given_value m s inp name ≡ s (name ∷ []) 0
+before_register m s inp name clock type r = cond-true (is_among (register_names m.locals) name) (s (name ∷ []) 0) (inp (name ∷ []) 0) (a_register m name clock type r)
 
-before_input : (m : ModuleTree) (s inp : Values) (name : List ℕ) (type : Shape) → IsSmallModule m → IsInputOf m name type → given_value m s inp name ≡ inp (name ∷ [])
+before_input : (m : ModuleTree) (s inp : Values) (name : List ℕ) (type : Shape) → IsSmallModule m → IsInputOf m name type → given_value m s inp name ≡ inp (name ∷ []) 0
 before_input m s inp name type small i =
-    cond-false (is_among (register_names m.locals) name) (s (name ∷ [])) (inp (name ∷ []))
+    cond-false (is_among (register_names m.locals) name) (s (name ∷ []) 0) (inp (name ∷ []) 0)
     (no_register m name (λ clock other r. input_no_target m name type (names_distinct m small) i (inr (clock, other, r))))
 
 readable_same : (m : ModuleTree) (s inp : Values) (name : List ℕ) → IsSmallModule m → IsReadable m name → given_value m s inp name ≡ cycle_value m s inp name
@@ -149,15 +149,15 @@ constant_same m small r c is path x y =
     ap (λ (o : Option ℕ). or_read o x) e ∙ sym (ap (λ (o : Option ℕ). or_read o y) e)
 
 leaf_same : (m : ModuleTree) (s inp : Values) → IsSmallModule m → (r : Ref) → IsLeaf m r →
-    or_read ((scope_of m).number r) (names_at [] (before m s inp) r) ≡ or_read ((scope_of m).number r) (names_at [] (in_cycle m s inp) r)
+    or_read ((scope_of m).number r) (names_at [] (before m s inp) r 0) ≡ or_read ((scope_of m).number r) (names_at [] (in_cycle m s inp) r 0)
 leaf_same m s inp small r (bare, (name, path, inl readable)) =
-    ap (or_read ((scope_of m).number r)) (ap (before m s inp) path ∙ readable_same m s inp name small readable ∙ ap (in_cycle m s inp) (sym path))
-leaf_same m s inp small r (bare, (name, path, inr (c, is, named))) = constant_same m small r c is (path ∙ ap (λ (n : List ℕ). n ∷ []) named) (names_at [] (before m s inp) r) (names_at [] (in_cycle m s inp) r)
+    ap (or_read ((scope_of m).number r)) (ap (λ (q : Path). before m s inp q 0) path ∙ readable_same m s inp name small readable ∙ ap (λ (q : Path). in_cycle m s inp q 0) (sym path))
+leaf_same m s inp small r (bare, (name, path, inr (c, is, named))) = constant_same m small r c is (path ∙ ap (λ (n : List ℕ). n ∷ []) named) (names_at [] (before m s inp) r 0) (names_at [] (in_cycle m s inp) r 0)
 
 equation : (m : ModuleTree) (s inp : Values) → IsSmallModule m → (t : StmtTree) → IsIn t m.body → IsSmallStmt m t → Equation m [] (in_cycle m s inp) t
 equation m s inp small (assignment name None e at equals) is (target, expr, widths) = λ none.
     at_other m s inp name none
-    ∙ assigned_here (scope_of m) m.body (before m s inp) (inp (name ∷ [])) (assignment name None e at equals) small.once is
+    ∙ assigned_here (scope_of m) m.body (before m s inp) (inp (name ∷ []) 0) (assignment name None e at equals) small.once is
     ∙ value_agrees (IsLeaf m) (scope_of m) (names_at [] (before m s inp)) (names_at [] (in_cycle m s inp)) (leaf_same m s inp small) e expr
 equation m s inp small (assignment name (Some place) e at equals) is wrong = absurd wrong
 equation m s inp small (call name args at) is wrong = absurd wrong
@@ -178,31 +178,31 @@ a_cycle S small s inp =
           (λ t is. equation m s inp small.small t is (of_all (IsSmallStmt m) t m.body small.small.statements is));
       registers = λ path type r.
           let g = from_root S m r.root (λ (n : ModuleTree). IsRegisterOf n r.name r.clock type) small.only r.is_root r.register in
-          ap (in_cycle m s inp) r.leads ∙ at_register m s inp r.name r.clock type g ∙ ap s (sym r.leads);
+          ap (λ (q : Path). in_cycle m s inp q 0) r.leads ∙ at_register m s inp r.name r.clock type g ∙ ap (λ (q : Path). s q 0) (sym r.leads);
       inputs = λ path type i.
           let g = from_root S m i.root (λ (n : ModuleTree). IsInputOf n i.name type) small.only i.is_root i.input in
-          ap (in_cycle m s inp) i.leads ∙ at_input m s inp i.name type small.small g ∙ ap inp (sym i.leads);
+          ap (λ (q : Path). in_cycle m s inp q 0) i.leads ∙ at_input m s inp i.name type small.small g ∙ ap (λ (q : Path). inp q 0) (sym i.leads);
     }
 
 -- two cycles agree on what can be read, and so on what is assigned
 both_read : (S : SourceTree) (m : ModuleTree) (s inp v w : Values) → IsRoot S m → IsSmallModule m → Cycle S s inp v → Cycle S s inp w → (r : Ref) → IsLeaf m r →
-    or_read ((scope_of m).number r) (names_at [] v r) ≡ or_read ((scope_of m).number r) (names_at [] w r)
+    or_read ((scope_of m).number r) (names_at [] v r 0) ≡ or_read ((scope_of m).number r) (names_at [] w r 0)
 both_read S m s inp v w root small c d r (bare, (name, path, inl (inl (type, i)))) =
     let is : IsInput S r.path type = record { root = m; is_root = root; name = name; input = i; leads = path } in
     ap (or_read ((scope_of m).number r)) (c.inputs r.path type is ∙ sym (d.inputs r.path type is))
 both_read S m s inp v w root small c d r (bare, (name, path, inl (inr (clock, type, g)))) =
     let is : IsRegister S r.path type = record { root = m; is_root = root; name = name; clock = clock; register = g; leads = path } in
     ap (or_read ((scope_of m).number r)) (c.registers r.path type is ∙ sym (d.registers r.path type is))
-both_read S m s inp v w root small c d r (bare, (name, path, inr (k, is, named))) = constant_same m small r k is (path ∙ ap (λ (n : List ℕ). n ∷ []) named) (names_at [] v r) (names_at [] w r)
+both_read S m s inp v w root small c d r (bare, (name, path, inr (k, is, named))) = constant_same m small r k is (path ∙ ap (λ (n : List ℕ). n ∷ []) named) (names_at [] v r 0) (names_at [] w r 0)
 
-both_assigned : (m : ModuleTree) (v w : Values) (t : StmtTree) → ((r : Ref) → IsLeaf m r → or_read ((scope_of m).number r) (names_at [] v r) ≡ or_read ((scope_of m).number r) (names_at [] w r)) → IsSmallStmt m t → ((clock : List ℕ) (type : Shape) → IsRegisterOf m (target_of t) clock type → ⊥) → Equation m [] v t → Equation m [] w t → v (target_of t ∷ []) ≡ w (target_of t ∷ [])
+both_assigned : (m : ModuleTree) (v w : Values) (t : StmtTree) → ((r : Ref) → IsLeaf m r → or_read ((scope_of m).number r) (names_at [] v r 0) ≡ or_read ((scope_of m).number r) (names_at [] w r 0)) → IsSmallStmt m t → ((clock : List ℕ) (type : Shape) → IsRegisterOf m (target_of t) clock type → ⊥) → Equation m [] v t → Equation m [] w t → v (target_of t ∷ []) 0 ≡ w (target_of t ∷ []) 0
 both_assigned m v w (assignment name None e at equals) same is none first second =
     first none ∙ value_agrees (IsLeaf m) (scope_of m) (names_at [] v) (names_at [] w) same e is.1 ∙ sym (second none)
 both_assigned m v w (assignment name (Some place) e at equals) same is none first second = absurd is
 both_assigned m v w (call name args at) same is none first second = absurd is
 both_assigned m v w (pad io inner drive release at) same is none first second = absurd is
 
-same_signal : (S : SourceTree) (small : IsSmallSource S) (s inp v w : Values) → Cycle S s inp v → Cycle S s inp w → (path : Path) → IsSignal S path → v path ≡ w path
+same_signal : (S : SourceTree) (small : IsSmallSource S) (s inp v w : Values) → Cycle S s inp v → Cycle S s inp w → (path : Path) → IsSignal S path → v path 0 ≡ w path 0
 same_signal S small s inp v w c d path (register type r) = c.registers path type r ∙ sym (d.registers path type r)
 same_signal S small s inp v w c d path (input type i) = c.inputs path type i ∙ sym (d.inputs path type i)
 same_signal S small s inp v w c d path (output o) =
@@ -213,10 +213,10 @@ same_signal S small s inp v w c d path (output o) =
     let t = found.0 in
     let none : (clock : List ℕ) (type : Shape) → IsRegisterOf m (target_of t) clock type → ⊥ = λ clock type r.
     output_no_register m o.port clock type (names_distinct m small.small) declared (subst (λ (n : List ℕ). IsRegisterOf m n clock type) (sym found.2) r) in
-    let e : v (target_of t ∷ []) ≡ w (target_of t ∷ []) = both_assigned m v w t (both_read S m s inp v w root small.small c d)
+    let e : v (target_of t ∷ []) 0 ≡ w (target_of t ∷ []) 0 = both_assigned m v w t (both_read S m s inp v w root small.small c d)
     (of_all (IsSmallStmt m) t m.body small.small.statements found.1) none (c.holds m root t found.1) (d.holds m root t found.1) in
     let there : path ≡ target_of t ∷ [] = o.leads ∙ ap (λ (n : List ℕ). n ∷ []) found.2 in
-    ap v there ∙ e ∙ ap w (sym there)
+    ap (λ (q : Path). v q 0) there ∙ e ∙ ap (λ (q : Path). w q 0) (sym there)
 
 -- the state behind a cycle
 next_here : (m : ModuleTree) (v : Values) → AreDistinct (map target_of m.body) → (t : StmtTree) → IsIn t m.body → NextBy m [] v (by_name (assigned (scope_of m) m.body v 0)) t
@@ -224,24 +224,24 @@ next_here m v once (assignment name place e at equals) is = λ clock type r. ass
 next_here m v once (call name args at) is = tt
 next_here m v once (pad io inner drive release at) is = tt
 
-both_next : (m : ModuleTree) (v s' t' : Values) (clock : List ℕ) (type : Shape) (t : StmtTree) → IsSmallStmt m t → IsRegisterOf m (target_of t) clock type → NextBy m [] v s' t → NextBy m [] v t' t → s' (target_of t ∷ []) ≡ t' (target_of t ∷ [])
+both_next : (m : ModuleTree) (v s' t' : Values) (clock : List ℕ) (type : Shape) (t : StmtTree) → IsSmallStmt m t → IsRegisterOf m (target_of t) clock type → NextBy m [] v s' t → NextBy m [] v t' t → s' (target_of t ∷ []) 0 ≡ t' (target_of t ∷ []) 0
 both_next m v s' t' clock type (assignment name None e at equals) is r first second = first clock type r ∙ sym (second clock type r)
 both_next m v s' t' clock type (assignment name (Some place) e at equals) is r first second = absurd is
 both_next m v s' t' clock type (call name args at) is r first second = absurd is
 both_next m v s' t' clock type (pad io inner drive release at) is r first second = absurd is
 
-same_next : (S : SourceTree) (small : IsSmallSource S) (v s' t' : Values) → Next S v s' → Next S v t' → (path : Path) (type : Shape) → IsRegister S path type → s' path ≡ t' path
+same_next : (S : SourceTree) (small : IsSmallSource S) (v s' t' : Values) → Next S v s' → Next S v t' → (path : Path) (type : Shape) → IsRegister S path type → s' path 0 ≡ t' path 0
 same_next S small v s' t' first second path type r =
     let m = small.root in
     let root : IsRoot S m = ([], small.only) in
     let g = from_root S m r.root (λ (n : ModuleTree). IsRegisterOf n r.name r.clock type) small.only r.is_root r.register in
     let found = from_map target_of r.name m.body (small.small.each r.name (inr (r.clock, type, g))) in
     let t = found.0 in
-    let e : s' (target_of t ∷ []) ≡ t' (target_of t ∷ []) = both_next m v s' t' r.clock type t
+    let e : s' (target_of t ∷ []) 0 ≡ t' (target_of t ∷ []) 0 = both_next m v s' t' r.clock type t
     (of_all (IsSmallStmt m) t m.body small.small.statements found.1) (subst (λ (n : List ℕ). IsRegisterOf m n r.clock type) found.2 g)
     (first m root t found.1) (second m root t found.1) in
     let there : path ≡ target_of t ∷ [] = r.leads ∙ ap (λ (n : List ℕ). n ∷ []) found.2 in
-    ap s' there ∙ e ∙ ap t' (sym there)
+    ap (λ (q : Path). s' q 0) there ∙ e ∙ ap (λ (q : Path). t' q 0) (sym there)
 
 pub has_one_cycle : (S : SourceTree) → IsSmallSource S → (s inp : Values) → IsState S s → IsGiven S inp → HasOneCycle S s inp
 has_one_cycle S small s inp state given =

@@ -324,7 +324,7 @@ module _ (m : ModuleTree) (s : Signals) (d : Declares m s) where
       let f = reference_is (get_by_text s.names) r (meaning.Leaf n w) e in
       let named : slice_get (leaf_names m) n ≡ Some f.1.0 =
       ap (λ (l : List (List ℕ)). slice_get l n) (sym all_names) ∙ get_map (λ (x : Sized). x.0) (map sized s.inputs.items ++ map sized s.registers.items) n (f.1.0, w) (leaf_at f.1.0 n w f.1.2) in
-      ap v f.1.1 ∙ sym (get_or_zero (values_of v (leaf_names m)) n (v (f.1.0 ∷ [])) (get_map (λ (name : List ℕ). v (name ∷ [])) (leaf_names m) n f.1.0 named))
+      ap (λ (q : List (List ℕ)). v q 0) f.1.1 ∙ sym (get_or_zero (values_of v (leaf_names m)) n (v (f.1.0 ∷ []) 0) (get_map (λ (name : List ℕ). v (name ∷ []) 0) (leaf_names m) n f.1.0 named))
 
   -- names of expressions in the module's terms and in the table's
   leaf_of : (r : Ref) → HasMeaning (get_by_text s.names) r → IsLeaf m r
@@ -421,7 +421,7 @@ module _ (m : ModuleTree) (s : Signals) (d : Declares m s) where
 
     -- the values that were read are those of the next state, in their registers' widths
     next_value : (v s' : Values) → Next (one_module m) v s' → (name : List ℕ) (flat : Flat) → IsIn name (register_names m.locals) → IsNextOf (get_by_text s.names) m.body name flat →
-        s' (name ∷ []) ≡ flat_number (vector_widths s.inputs.items ++ vector_widths s.registers.items) flat (values_of v (leaf_names m))
+        s' (name ∷ []) 0 ≡ flat_number (vector_widths s.inputs.items ++ vector_widths s.registers.items) flat (values_of v (leaf_names m))
     next_value v s' next name flat is n =
         let r = is_register m name is in
         let by = subst (λ (t : StmtTree). NextBy m [] v s' t) n.assigns.is (next m ([], refl) n.statement n.there) in

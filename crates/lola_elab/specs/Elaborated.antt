@@ -49,6 +49,6 @@ pub record Elaborates (S : SourceTree) (d : Design) : Type 0 where
 -- behind it, and any two states behind it agree on each register
 pub record HasOneCycle (S : SourceTree) (s inp : Values) : Type 0 where
   pub cycle : (v : Values) × Cycle S s inp v
-  pub same : (v w : Values) → Cycle S s inp v → Cycle S s inp w → (path : Path) → IsSignal S path → v path ≡ w path
+  pub same : (v w : Values) → Cycle S s inp v → Cycle S s inp w → (path : Path) → IsSignal S path → v path 0 ≡ w path 0
   pub next : (v : Values) → (s' : Values) × Next S v s'
-  pub same_next : (v s' t' : Values) → Next S v s' → Next S v t' → (path : Path) (type : Shape) → IsRegister S path type → s' path ≡ t' path
+  pub same_next : (v s' t' : Values) → Next S v s' → Next S v t' → (path : Path) (type : Shape) → IsRegister S path type → s' path 0 ≡ t' path 0

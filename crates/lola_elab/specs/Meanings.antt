@@ -57,9 +57,9 @@ pub record AreOf (names : Meanings) (scope : Widths) (widths : List ℕ) : Type 
       (scope.width r ≡ Some width) × (scope.number r ≡ Some value)
 
 -- names that stand for leaves have the leaves' numbers
-abbrev pub ReadsLeaves : Meanings → (Ref → ℕ) → List ℕ → Type 0
+abbrev pub ReadsLeaves : Meanings → (Ref → ℕ → ℕ) → List ℕ → Type 0
 ReadsLeaves names read numbers =
-    (r : Ref) (number width : ℕ) → meaning_of names r ≡ Some (meaning.Leaf number width) → read r ≡ slice_index_or numbers number 0
+    (r : Ref) (number width : ℕ) → meaning_of names r ≡ Some (meaning.Leaf number width) → read r 0 ≡ slice_index_or numbers number 0
 
 -- an expression over leaves has a tree's width and value, whatever the leaves' numbers are
 pub record IsFlatOf (names : Meanings) (e : Tree) (flat : Flat) (wide : ℕ) : Type 0 where
@@ -68,7 +68,7 @@ pub record IsFlatOf (names : Meanings) (e : Tree) (flat : Flat) (wide : ℕ) : T
   pub at_most : wide ≤ 128
   pub tree_width : (scope : Widths) (widths : List ℕ) → AreOf names scope widths → width scope e ≡ Some wide
   pub leaf_width : (scope : Widths) (widths : List ℕ) → AreOf names scope widths → flat_width widths flat ≡ Some wide
-  pub number : (scope : Widths) (widths : List ℕ) → AreOf names scope widths → (read : Ref → ℕ) (numbers : List ℕ) → ReadsLeaves names read numbers →
+  pub number : (scope : Widths) (widths : List ℕ) → AreOf names scope widths → (read : Ref → ℕ → ℕ) (numbers : List ℕ) → ReadsLeaves names read numbers →
       flat_number widths flat numbers ≡ value scope e read
 
 -- it has none: it isn't built, or has no width
@@ -85,7 +85,7 @@ pub record ArePartsFlat (names : Meanings) (parts : Parts) (flat : Flat) (wide :
   pub built : AreBuilt (HasMeaning names) parts
   pub tree_width : (scope : Widths) (widths : List ℕ) → AreOf names scope widths → total_width scope parts ≡ Some wide
   pub leaf_width : (scope : Widths) (widths : List ℕ) → AreOf names scope widths → flat_width widths flat ≡ Some wide
-  pub number : (scope : Widths) (widths : List ℕ) → AreOf names scope widths → (read : Ref → ℕ) (numbers : List ℕ) → ReadsLeaves names read numbers →
+  pub number : (scope : Widths) (widths : List ℕ) → AreOf names scope widths → (read : Ref → ℕ → ℕ) (numbers : List ℕ) → ReadsLeaves names read numbers →
       flat_number widths flat numbers ≡ value_of_parts scope parts read
 
 -- they aren't built, have no width, or come to more than 128 bits

@@ -54,7 +54,7 @@ impl Scope {
 /// scope hasn't.
 pub fn resolve(alloc: Global, expr: &Expr, scope: &Scope) -> Result<Logic, ElabError>
     ensures small { IfOk result (λ logic. IsSmallExpr (HasReading scope.now) (tree expr.now)) }
-    ensures means { IfOk result (λ logic. (widths : Widths) → AreBitNames (HasReading scope.now) widths → (names : Reference → ℕ) (leaves : List Bool) → Reads scope.now names leaves → value widths (tree expr.now) names ≡ bit_number (logic_value logic leaves)) }
+    ensures means { IfOk result (λ logic. (widths : Widths) → AreBitNames (HasReading scope.now) widths → (names : Reference → ℕ) (leaves : List Bool) → Reads scope.now names leaves → value widths (tree expr.now) (λ r n. names r) ≡ bit_number (logic_value logic leaves)) }
     ensures none { result ≡ Err ElabError.NotBuilt → IsSmallExpr (HasReading scope.now) (tree expr.now) → ⊥ }
 {
     match expr {

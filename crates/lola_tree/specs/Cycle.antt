@@ -68,20 +68,20 @@ Suits names type n = FitsIn (vector_width names (Some type)) n
 
 -- a state gives each register a value of its type
 abbrev pub IsState : SourceTree → Values → Type 0
-IsState S s = (root : ModuleTree) → IsRoot S root → (path : Path) (type : Shape) → IsRegister S path type → Suits (names_of root) type (s path)
+IsState S s = (root : ModuleTree) → IsRoot S root → (path : Path) (type : Shape) → IsRegister S path type → Suits (names_of root) type (s path 0)
 
 -- an input gives each IN port but the clock a value of its type
 abbrev pub IsGiven : SourceTree → Values → Type 0
-IsGiven S inp = (root : ModuleTree) → IsRoot S root → (path : Path) (type : Shape) → IsInput S path type → Suits (names_of root) type (inp path)
+IsGiven S inp = (root : ModuleTree) → IsRoot S root → (path : Path) (type : Shape) → IsInput S path type → Suits (names_of root) type (inp path 0)
 
 -- the values of the names that are seen from an instance
-abbrev pub names_at : Path → Values → Ref → ℕ
+abbrev pub names_at : Path → Values → Ref → ℕ → ℕ
 names_at p v r = v (p ++ r.path)
 
 -- a statement's equation: what isn't a register has its assignment's value in the same cycle
 abbrev pub Equation : ModuleTree → Path → Values → StmtTree → Type 0
 Equation m p v (assignment name place e at equals) =
-    ((clock : List ℕ) (type : Shape) → IsRegisterOf m name clock type → ⊥) → v (p ++ name ∷ []) ≡ value (scope_of m) e (names_at p v)
+    ((clock : List ℕ) (type : Shape) → IsRegisterOf m name clock type → ⊥) → v (p ++ name ∷ []) 0 ≡ value (scope_of m) e (names_at p v)
 Equation m p v (call name args at) = Unit {0}
 Equation m p v (pad io inner drive release at) = Unit {0}
 
@@ -92,13 +92,13 @@ Holds S v = (m : ModuleTree) → IsRoot S m → (t : StmtTree) → IsIn t m.body
 -- a cycle from a state under an input: a valuation that satisfies the equations and agrees with both
 pub record Cycle (S : SourceTree) (s inp v : Values) : Type 0 where
   pub holds : Holds S v
-  pub registers : (path : Path) (type : Shape) → IsRegister S path type → v path ≡ s path
-  pub inputs : (path : Path) (type : Shape) → IsInput S path type → v path ≡ inp path
+  pub registers : (path : Path) (type : Shape) → IsRegister S path type → v path 0 ≡ s path 0
+  pub inputs : (path : Path) (type : Shape) → IsInput S path type → v path 0 ≡ inp path 0
 
 -- what a statement says of the next state: a register has its assignment's value of this cycle
 abbrev pub NextBy : ModuleTree → Path → Values → Values → StmtTree → Type 0
 NextBy m p v s' (assignment name place e at equals) =
-    (clock : List ℕ) (type : Shape) → IsRegisterOf m name clock type → s' (p ++ name ∷ []) ≡ value (scope_of m) e (names_at p v)
+    (clock : List ℕ) (type : Shape) → IsRegisterOf m name clock type → s' (p ++ name ∷ []) 0 ≡ value (scope_of m) e (names_at p v)
 NextBy m p v s' (call name args at) = Unit {0}
 NextBy m p v s' (pad io inner drive release at) = Unit {0}
 
@@ -108,9 +108,9 @@ Next S v s' = (m : ModuleTree) → IsRoot S m → (t : StmtTree) → IsIn t m.bo
 
 -- the input of a cycle, by its number
 abbrev pub input_at : List Values → ℕ → Values
-input_at [] c path = 0
-input_at (inp ∷ inputs) zero path = inp path
-input_at (inp ∷ inputs) (suc c) path = input_at inputs c path
+input_at [] c path n = 0
+input_at (inp ∷ inputs) zero path n = inp path n
+input_at (inp ∷ inputs) (suc c) path n = input_at inputs c path n
 
 -- a run: from state to state, a cycle for each input
 pub record Run (S : SourceTree) (inputs : List Values) (s v : ℕ → Values) : Type 0 where

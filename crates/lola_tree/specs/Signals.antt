@@ -49,7 +49,7 @@ register_names (local ∷ locals) = name_of_register local.kind local.name ++ re
 
 -- the values of a module's names in a valuation
 abbrev pub values_of : Values → List (List ℕ) → List ℕ
-values_of v names = map (λ (name : List ℕ). v (name ∷ [])) names
+values_of v names = map (λ (name : List ℕ). v (name ∷ []) 0) names
 
 -- the inputs and the registers of the root, which is the last module
 abbrev pub root_inputs : List ModuleTree → List (List ℕ)

@@ -15,7 +15,7 @@ table_scope = record { count = λ c. None; number = λ r. None; width = λ r. So
 
 -- the value of an expression of a table
 abbrev pub table_value : Tree → (Ref → ℕ) → ℕ
-table_value e read = value table_scope e read
+table_value e read = value table_scope e (λ r n. read r)
 
 -- what a programmer sees: the values of the states, in the order of their rows
 abbrev pub Arch : Type 0
@@ -64,7 +64,7 @@ state_value (row ∷ rows) (a ∷ others) name = if bytes_eq row.name name then 
 
 -- the values of `@` names in a state of the design; no other name has one
 abbrev pub source_names : Values → Ref → ℕ
-source_names s r = if r.source then s r.path else 0
+source_names s r = if r.source then s r.path 0 else 0
 
 -- a name without path
 abbrev pub name_of : Path → List ℕ
