@@ -1,1 +1,9 @@
 pub mod Numbers
+pub mod Tests
+pub mod Options
+pub mod Lists
+pub mod All
+pub mod Places
+pub mod Names
+pub mod Counts
+pub mod BitLists

@@ -1,8 +1,8 @@
 -- Facts of the numbers that operators make, over any width of at most 128 bits.
-use Rattle.std.proofs.Common.{◌≡◌, ℕ, zero, suc, ◌+◌, ◌-◌, ◌*◌, ◌/◌, ◌%◌, ◌^◌, ◌<◌, ◌≤◌, true, nat_eq, bit_or, bit_xor, sym, ◌∙◌, ap, subst, arith}
+use Rattle.std.proofs.Common.{◌≡◌, ℕ, zero, suc, ◌+◌, ◌-◌, ◌*◌, ◌/◌, ◌%◌, ◌^◌, ◌<◌, ◌≤◌, true, nat_eq, bit_or, bit_xor, sym, ◌∙◌, ap, subst, inl, inr, arith}
 use Rattle.std.proofs.lemmas.Nat.{pow_pos, pow-add, or_lt, xor_lt, shr_split, or_shifted, shl_whole, shr_below, mod_low, mod_below, mul-add-lt}
 use Rattle.std.proofs.lemmas.Nat.Bits.{ones_shr}
-use Rattle.std.proofs.lemmas.Bool.{eqb-true}
+use Rattle.std.proofs.lemmas.Bool.{eqb-true, cases_lt}
 use Rattle.std.proofs.Math.Pow.{mod-mod-pow}
 use Rattle.std.proofs.Math.Nat.{add-mul-mod_self_right, mul-mod_left, div-eq_of_lt, mod-eq_of_lt, mul_assoc, zero-div, pow-le-pow_right, add_comm, add-mul, one-mul, mul-le-mul_right, div-one}
 use Rattle.lola_bits.specs.Number.{bit_at, slice_of, joined, difference, moved_up, moved_down, moved_filled, turned}
@@ -123,3 +123,24 @@ or_fits w v x y p q e = let below : y < 2 ^ w = subst (λ k. y < 2 ^ k) e q.belo
 -- and so `^`
 pub xor_fits : (w v x y : ℕ) → FitsWidth w x → FitsWidth v y → v ≡ w → FitsWidth w (bit_xor x y)
 xor_fits w v x y p q e = let below : y < 2 ^ w = subst (λ k. y < 2 ^ k) e q.below in record { positive = p.positive; at_most = p.at_most; below = xor_lt w x y p.below below }
+
+-- a number joined with another of a width is below 2 to both widths
+pub joined_below : (x v y w : ℕ) → x < 2 ^ v → y < 2 ^ w → joined x w y < 2 ^ (v + w)
+joined_below x v y w high low =
+    let power : 2 ^ (v + w) ≡ 2 ^ w * 2 ^ v = ap (λ k. 2 ^ k) (add_comm v w) ∙ pow-add 2 w v in
+    rw power (mul-add-lt x (2 ^ w) y (2 ^ v) high low)
+
+-- what is moved down with the top bit filled in keeps its width, however far it moves
+pub filled_fits : (x w n : ℕ) → FitsWidth w x → moved_filled w x n < 2 ^ w
+filled_fits x w n fits = elim (cases_lt w n) [
+  | inl far ↦
+      let top = top_below x w fits.positive fits.below in
+      let less : x / 2 ^ (w - 1) * (2 ^ w - 1) < 2 ^ w = copies_below (x / 2 ^ (w - 1)) top in
+      subst (λ (y : ℕ). y < 2 ^ w) (sym (all_filled x w n fits (omega arith))) less
+  | inr near ↦ filled_below x w n fits near
+]
+  where
+    copies_below : (t : ℕ) → t < 2 → t * (2 ^ w - 1) < 2 ^ w
+    copies_below zero low = omega (arith, pow_pos w)
+    copies_below (suc zero) low = omega (arith, pow_pos w)
+    copies_below (suc (suc t)) low = absurd (omega arith)
