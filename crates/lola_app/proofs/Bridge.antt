@@ -9,9 +9,9 @@ use Rattle.lola_tree.specs.Cycle.{IsIn, IsState, IsGiven, Cycle, Next}
 use Rattle.lola_tree.specs.Signals.{values_of, root_inputs, root_registers}
 use Rattle.lola_elab.specs.Logic.{logic_value, bit_number, AreBits}
 use Rattle.lola_elab.specs.Elaborated.{vector_names, vector_widths, HasOneCycle}
-use Rattle.tab_tree.specs.declared.table.Active.{Active}
-use Rattle.tab_tree.specs.Table.{active_value, idle_value, StateTree, SetTree, ClassTree, TableTree}
-use Rattle.tab_tree.specs.Step.{fits, source_names, no_names, class_names, state_value, set_value, loaded_word, table_value}
+use Rattle.small_tree.specs.declared.table.Active.{Active}
+use Rattle.small_tree.specs.Table.{active_value, idle_value, StateTree, SetTree, ClassTree, TableTree}
+use Rattle.small_tree.specs.Step.{fits, source_names, no_names, class_names, state_value, set_value, loaded_word, table_value}
 use Rattle.lola_app.specs.declared.claim.Claim.{Claim}
 use Rattle.lola_app.specs.declared.claim.State.{State}
 use Rattle.lola_app.specs.declared.claim.Start.{Start}

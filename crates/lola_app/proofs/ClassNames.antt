@@ -8,8 +8,8 @@ use Rattle.lola_elab.specs.declared.scope.Reading.TheVariants as reading
 use Rattle.lola_elab.specs.declared.scope.Scope.{Scope}
 use Rattle.lola_elab.specs.Scope.{find, find_path, reading_number}
 use Rattle.lola_elab.proofs.Lists.{same_name, is_same_name, other_name, in_front, in_back, in_either}
-use Rattle.tab_tree.specs.Table.{StateTree, ClassTree, PhaseTree, TableTree}
-use Rattle.tab_tree.specs.Step.{class_names, bare_value, state_value, loaded_word, loads_first}
+use Rattle.small_tree.specs.Table.{StateTree, ClassTree, PhaseTree, TableTree}
+use Rattle.small_tree.specs.Step.{class_names, bare_value, state_value, loaded_word, loads_first}
 use Rattle.lola_app.specs.declared.states.Shown.{Shown}
 use Rattle.lola_app.specs.Claiming.{AreEach, AreLeaves}
 use Rattle.lola_app.specs.Classes.{IsTaken}

@@ -9,7 +9,7 @@ use Rattle.lola_elab.specs.declared.vector.Vector.{Vector}
 use Rattle.lola_elab.specs.Small.{IsSmallSource}
 use Rattle.lola_elab.specs.Elaborated.{vector_names, vector_widths, leaf_widths, Elaborates, HasOneCycle}
 use Rattle.lola_elab.proofs.Roots.{root_is}
-use Rattle.tab_tree.specs.Table.{TableTree}
+use Rattle.small_tree.specs.Table.{TableTree}
 use Rattle.lola_app.specs.declared.claim.Claim.{Claim}
 use Rattle.lola_app.specs.declared.face.Face.{Face}
 use Rattle.lola_app.specs.declared.subject.Subject.{Subject}

@@ -10,8 +10,8 @@ use Rattle.lola_elab.specs.declared.scope.Scope.{Scope}
 use Rattle.lola_elab.specs.Logic.{logic_value, bit_number}
 use Rattle.lola_elab.specs.Scope.{HasReading, Reads}
 use Rattle.lola_elab.specs.Small.{IsSmallExpr}
-use Rattle.tab_tree.specs.Table.{StateTree, SetTree, ClassTree, TableTree}
-use Rattle.tab_tree.specs.Step.{source_names, class_names, set_value, loaded_word, table_value}
+use Rattle.small_tree.specs.Table.{StateTree, SetTree, ClassTree, TableTree}
+use Rattle.small_tree.specs.Step.{source_names, class_names, set_value, loaded_word, table_value}
 use Rattle.lola_app.specs.declared.claim.Claim.{Claim}
 use Rattle.lola_app.specs.declared.claim.State.{State}
 use Rattle.lola_app.specs.declared.claim.Start.{Start}

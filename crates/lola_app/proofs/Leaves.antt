@@ -12,7 +12,7 @@ use Rattle.lola_elab.specs.Logic.{bit_number, AreBits}
 use Rattle.lola_elab.specs.Small.{AreDistinct}
 use Rattle.lola_elab.proofs.Lists.{same_name, other_name}
 use Rattle.lola_elab.proofs.Widths.{equal_is}
-use Rattle.tab_tree.specs.Step.{name_of}
+use Rattle.small_tree.specs.Step.{name_of}
 use Rattle.lola_app.specs.Naming.{IsAt}
 use Rattle.lola_app.specs.Obligations.{without}
 use Rattle.lola_app.specs.Trial.{but_one, with_reset, seen}

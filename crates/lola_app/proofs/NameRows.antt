@@ -1,8 +1,8 @@
 -- The names of rows.
 use Rattle.std.proofs.Common.{ℕ, List, map}
-use Rattle.tab_tree.specs.declared.table.StateRow.{StateRow}
-use Rattle.tab_tree.specs.declared.table.SetRow.{SetRow}
-use Rattle.tab_tree.specs.Table.{state_tree, set_tree, StateTree, SetTree}
+use Rattle.small_tree.specs.declared.table.StateRow.{StateRow}
+use Rattle.small_tree.specs.declared.table.SetRow.{SetRow}
+use Rattle.small_tree.specs.Table.{state_tree, set_tree, StateTree, SetTree}
 
 abbrev pub names_of_states : List StateRow → List (List ℕ)
 names_of_states rows = map (λ (row : StateTree). row.name) (map state_tree rows)

@@ -11,9 +11,9 @@ use Rattle.lola_scan.specs.Tokens.{Spells, Fails, HasOneReading}
 use Rattle.lola_parse.specs.declared.symbol.Language.TheVariants.{Design, Table}
 use Rattle.lola_parse.specs.Symbols.{Item, items_of}
 use Rattle.lola_parse.specs.Design.{SpellsSource}
-use Rattle.tab_tree.specs.Table.{TableTree}
-use Rattle.tab_tree.specs.Step.{inside_classes}
-use Rattle.tab_read.specs.Grammar.{SpellsTable}
+use Rattle.small_tree.specs.Table.{TableTree}
+use Rattle.small_tree.specs.Step.{inside_classes}
+use Rattle.small_read.specs.Grammar.{SpellsTable}
 use Rattle.lola_elab.specs.Built.{IsBuiltSource}
 use Rattle.lola_elab.specs.Small.{IsSmallSource}
 use Rattle.lola_app.specs.Accepts.{Accepts, IsSpelled, AcceptsTable}

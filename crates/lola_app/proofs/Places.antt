@@ -6,7 +6,7 @@ use Rattle.std.specs.Option.{option_map}
 use Rattle.lola_tree.specs.Cycle.{IsIn}
 use Rattle.lola_elab.proofs.Lists.{same_name}
 use Rattle.lola_elab.proofs.Steps.{drop_item}
-use Rattle.tab_tree.specs.Table.{TableTree}
+use Rattle.small_tree.specs.Table.{TableTree}
 use Rattle.lola_app.specs.declared.roles.Roles.{Roles}
 use Rattle.lola_app.specs.Naming.{IsAt}
 use Rattle.lola_app.specs.Shown.{AreRoles, IsLoadedAt}

@@ -10,8 +10,8 @@ use Rattle.lola_parse.specs.declared.symbol.Language.TheVariants.{Design, Table}
 use Rattle.lola_parse.specs.Symbols.{Item, items_of}
 use Rattle.lola_parse.specs.Design.{SpellsSource}
 use Rattle.lola_elab.specs.Small.{IsSmallSource}
-use Rattle.tab_tree.specs.Table.{TableTree}
-use Rattle.tab_read.specs.Grammar.{SpellsTable}
+use Rattle.small_tree.specs.Table.{TableTree}
+use Rattle.small_read.specs.Grammar.{SpellsTable}
 use Rattle.lola_app.specs.Accepts.{Accepts, IsSpelled}
 
 -- a fault but want of memory is a fault of the text, so it spells nothing

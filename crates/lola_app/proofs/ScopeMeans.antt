@@ -16,8 +16,8 @@ use Rattle.lola_elab.specs.Logic.{bit_number, AreBits}
 use Rattle.lola_elab.specs.Scope.{find, find_path, reading_of, HasReading, reading_number, Reads}
 use Rattle.lola_elab.specs.Small.{IsSmallExpr}
 use Rattle.lola_elab.proofs.Lists.{same_name, is_same_name}
-use Rattle.tab_tree.specs.Table.{StateTree}
-use Rattle.tab_tree.specs.Step.{source_names, state_value, table_value}
+use Rattle.small_tree.specs.Table.{StateTree}
+use Rattle.small_tree.specs.Step.{source_names, state_value, table_value}
 use Rattle.lola_app.specs.declared.states.Shown.{Shown}
 use Rattle.lola_app.specs.Claiming.{AreEach, AreLeaves}
 use Rattle.lola_app.specs.Naming.{IsAt}

@@ -6,12 +6,12 @@ use Rattle.lola_tree.specs.Tree.{tree}
 use Rattle.lola_tree.specs.Cycle.{IsIn}
 use Rattle.lola_elab.proofs.Lists.{same_name, is_same_name}
 use Rattle.lola_elab.proofs.Steps.{drop_item}
-use Rattle.tab_tree.specs.declared.table.SetRow.{SetRow}
-use Rattle.tab_tree.specs.Table.{set_tree}
-use Rattle.tab_tree.specs.Step.{set_value, table_value}
+use Rattle.small_tree.specs.declared.table.SetRow.{SetRow}
+use Rattle.small_tree.specs.Table.{set_tree}
+use Rattle.small_tree.specs.Step.{set_value, table_value}
 use Rattle.lola_app.specs.declared.states.Shown.{Shown}
 use Rattle.std.specs.List.{AllByRecursion}
-use Rattle.tab_tree.specs.Table.{SetTree}
+use Rattle.small_tree.specs.Table.{SetTree}
 use Rattle.lola_app.specs.declared.claim.Start.{Start}
 use Rattle.lola_app.specs.Claiming.{AreEach}
 use Rattle.lola_app.specs.Small.{IsSmallRow, IsNoName}

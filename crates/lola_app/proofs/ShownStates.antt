@@ -4,7 +4,7 @@ use Rattle.std.specs.List.{AllByRecursion}
 use Rattle.std.proofs.lemmas.Option.{slice_get_within}
 use Rattle.lola_tree.specs.Tree.{Tree, number, whole, bit, slice, index, concat, negation, binary, choice}
 use Rattle.lola_tree.specs.Cycle.{IsIn}
-use Rattle.tab_tree.specs.Table.{StateTree}
+use Rattle.small_tree.specs.Table.{StateTree}
 use Rattle.lola_app.specs.declared.states.Shown.{Shown}
 use Rattle.lola_app.specs.Claiming.{AreEach}
 use Rattle.lola_app.specs.Naming.{IsAt}

@@ -8,8 +8,8 @@ use Rattle.lola_tree.specs.Tree.{SourceTree}
 use Rattle.lola_tree.specs.Value.{Values}
 use Rattle.lola_tree.specs.Cycle.{IsIn, IsState, IsGiven, Cycle, Next, Run, input_at}
 use Rattle.lola_elab.specs.Small.{IsSmallSource}
-use Rattle.tab_tree.specs.Table.{StateTree, SetTree, ClassTree, TableTree}
-use Rattle.tab_tree.specs.Step.{Arch, Answer, IsClass, fits, source_names, no_names, class_names, state_value, set_value, set_states, cycles_of, answer_at, loaded_word, Boundary, first, after, Access, idle, table_value}
+use Rattle.small_tree.specs.Table.{StateTree, SetTree, ClassTree, TableTree}
+use Rattle.small_tree.specs.Step.{Arch, Answer, IsClass, fits, source_names, no_names, class_names, state_value, set_value, set_states, cycles_of, answer_at, loaded_word, Boundary, first, after, Access, idle, table_value}
 use Rattle.lola_app.specs.Accepts.{Fits}
 use Rattle.lola_app.specs.Headline.{shown, shown_word, Shows, IsIdle, is_unstalled, unstalled, answer_of, answers_of, Sees, Starts, Commutes, Resets}
 use Rattle.lola_app.specs.Obligations.{start, state, reset, ends, class_obligations, Valuation, Premises, HoldsAlways, AllHold}

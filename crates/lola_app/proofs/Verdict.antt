@@ -7,7 +7,7 @@ use Rattle.std.proofs.lemmas.List.{map-append}
 use Rattle.lola_tree.specs.Tree.{SourceTree}
 use Rattle.lola_tree.specs.Signals.{root_registers}
 use Rattle.lola_elab.specs.Elaborated.{vector_names, vector_widths}
-use Rattle.tab_tree.specs.Table.{StateTree, SetTree, ClassTree, TableTree}
+use Rattle.small_tree.specs.Table.{StateTree, SetTree, ClassTree, TableTree}
 use Rattle.lola_app.specs.declared.claim.Claim.{Claim}
 use Rattle.lola_app.specs.declared.claim.State.{State}
 use Rattle.lola_app.specs.declared.claim.Start.{Start}

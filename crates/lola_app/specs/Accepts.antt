@@ -9,8 +9,8 @@ use Rattle.lola_parse.specs.Symbols.{items_of}
 use Rattle.lola_parse.specs.Design.{SpellsSource}
 use Rattle.lola_width.specs.Sized.{IsWellSized}
 use Rattle.lola_elab.specs.Small.{IsSmallSource}
-use Rattle.tab_tree.specs.Table.{TableTree}
-use Rattle.tab_read.specs.Grammar.{SpellsTable}
+use Rattle.small_tree.specs.Table.{TableTree}
+use Rattle.small_read.specs.Grammar.{SpellsTable}
 use Rattle.lola_app.specs.Small.{interface_of, IsSmallTable}
 
 -- the bytes spell tokens, which spell the source, and it is well sized and in the small form

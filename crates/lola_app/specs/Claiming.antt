@@ -4,8 +4,8 @@ use Rattle.std.specs.Prelude.{◌≡◌, ℕ, ◌≤◌, List, [], ◌∷◌, �
 use Rattle.lola_tree.specs.Value.{Values}
 use Rattle.lola_tree.specs.Signals.{values_of}
 use Rattle.lola_elab.specs.Logic.{logic_value, bit_number, AreBits}
-use Rattle.tab_tree.specs.Table.{StateTree, SetTree, ClassTree, TableTree}
-use Rattle.tab_tree.specs.Step.{source_names, no_names, class_names, state_value, set_value, loaded_word, table_value}
+use Rattle.small_tree.specs.Table.{StateTree, SetTree, ClassTree, TableTree}
+use Rattle.small_tree.specs.Step.{source_names, no_names, class_names, state_value, set_value, loaded_word, table_value}
 use Rattle.lola_app.specs.declared.claim.Claim.{Claim}
 use Rattle.lola_app.specs.declared.claim.State.{State}
 use Rattle.lola_app.specs.declared.claim.Start.{Start}

@@ -1,6 +1,6 @@
 -- The phase of a class, and what it takes.
 use Rattle.std.specs.Prelude.{◌≡◌, ℕ, true, if◌then◌else◌, List, [], ◌∷◌, Option, Some, None}
-use Rattle.tab_tree.specs.Table.{PhaseTree}
+use Rattle.small_tree.specs.Table.{PhaseTree}
 use Rattle.lola_app.specs.Small.{IsOne}
 
 -- phases are one phase without a LINK, which loads only where there is a leaf to load from

@@ -5,8 +5,8 @@ use Rattle.lola_elab.specs.declared.logic.Logic.{Logic}
 use Rattle.lola_elab.specs.declared.scope.Scope.{Scope}
 use Rattle.lola_elab.specs.Logic.{logic_value, bit_number}
 use Rattle.lola_elab.specs.Scope.{Reads}
-use Rattle.tab_tree.specs.Table.{SetTree}
-use Rattle.tab_tree.specs.Step.{set_value}
+use Rattle.small_tree.specs.Table.{SetTree}
+use Rattle.small_tree.specs.Step.{set_value}
 use Rattle.lola_app.specs.declared.claim.State.{State}
 use Rattle.lola_app.specs.declared.states.Shown.{Shown}
 

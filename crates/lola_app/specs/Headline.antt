@@ -6,8 +6,8 @@ use Rattle.std.specs.List.{AllByRecursion}
 use Rattle.lola_tree.specs.Tree.{SourceTree}
 use Rattle.lola_tree.specs.Value.{Values}
 use Rattle.lola_tree.specs.Cycle.{IsState, IsGiven, Cycle, Next, Run, input_at}
-use Rattle.tab_tree.specs.Table.{active_value, idle_value, StateTree, SetTree, ClassTree, TableTree}
-use Rattle.tab_tree.specs.Step.{Arch, Answer, IsInside, source_names, no_names, state_value, Boundary, Access, idle, IsStartAccess, Row, table_value}
+use Rattle.small_tree.specs.Table.{active_value, idle_value, StateTree, SetTree, ClassTree, TableTree}
+use Rattle.small_tree.specs.Step.{Arch, Answer, IsInside, source_names, no_names, state_value, Boundary, Access, idle, IsStartAccess, Row, table_value}
 
 -- the states that a state of the design shows
 abbrev pub shown : TableTree → Values → Arch

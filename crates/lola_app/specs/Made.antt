@@ -8,7 +8,7 @@ use Rattle.lola_parse.specs.Symbols.{items_of}
 use Rattle.lola_parse.specs.Design.{SpellsSource}
 use Rattle.lola_elab.specs.declared.design.Design.{Design}
 use Rattle.lola_elab.specs.Elaborated.{Elaborates}
-use Rattle.tab_tree.specs.Table.{TableTree}
+use Rattle.small_tree.specs.Table.{TableTree}
 use Rattle.lola_app.specs.declared.claim.Claim.{Claim}
 use Rattle.lola_app.specs.Accepts.{Accepts, IsSpelled}
 use Rattle.lola_app.specs.Claiming.{IsClaimOf}

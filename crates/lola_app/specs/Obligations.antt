@@ -5,8 +5,8 @@ use Rattle.lola_tree.specs.Tree.{ModuleTree, SourceTree}
 use Rattle.lola_tree.specs.Value.{Values}
 use Rattle.lola_tree.specs.Cycle.{IsState, IsGiven, Cycle, Next}
 use Rattle.lola_tree.specs.Signals.{root_inputs, root_registers, values_of}
-use Rattle.tab_tree.specs.Table.{StateTree, SetTree, ClassTree, TableTree}
-use Rattle.tab_tree.specs.Step.{fits, IsClass, word_width, source_names, no_names, class_names, state_value, set_value, loaded_word, table_value}
+use Rattle.small_tree.specs.Table.{StateTree, SetTree, ClassTree, TableTree}
+use Rattle.small_tree.specs.Step.{fits, IsClass, word_width, source_names, no_names, class_names, state_value, set_value, loaded_word, table_value}
 use Rattle.lola_app.specs.Headline.{shown, shown_word, IsActive, IsIdle, answer_of}
 use Rattle.lola_app.specs.Small.{width_in}
 

@@ -5,8 +5,8 @@ use Rattle.lola_tree.specs.Tree.{SourceTree}
 use Rattle.lola_tree.specs.Value.{Values}
 use Rattle.lola_tree.specs.Cycle.{IsState, IsGiven}
 use Rattle.lola_elab.specs.Elaborated.{HasOneCycle}
-use Rattle.tab_tree.specs.Table.{TableTree}
-use Rattle.tab_tree.specs.Step.{inside_classes}
+use Rattle.small_tree.specs.Table.{TableTree}
+use Rattle.small_tree.specs.Step.{inside_classes}
 use Rattle.lola_app.specs.Accepts.{Accepts, AcceptsTable}
 use Rattle.lola_app.specs.Headline.{Resets, Commutes}
 use Rattle.lola_app.specs.Obligations.{Obligation, obligations, obligation_name, Valuation, HoldsAlways, AllHold, free_names, free_values, free_widths, free_bits, IsNarrow, IsLeastViolation}

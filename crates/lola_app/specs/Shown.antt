@@ -1,7 +1,7 @@
 -- The states of a table by the leaves of their registers.
 use Rattle.std.specs.Prelude.{◌≡◌, ℕ, ◌+◌, true, List, [], ◌∷◌, length, Option, Some, None, string_bytes}
 use Rattle.lola_tree.specs.Tree.{Tree, number, whole, bit, slice, index, concat, negation, binary, choice}
-use Rattle.tab_tree.specs.Table.{StateTree, TableTree}
+use Rattle.small_tree.specs.Table.{StateTree, TableTree}
 use Rattle.lola_app.specs.declared.states.Shown.{Shown}
 use Rattle.lola_app.specs.declared.roles.Roles.{Roles}
 use Rattle.lola_app.specs.Naming.{IsAt}

@@ -9,8 +9,8 @@ use Rattle.lola_tree.specs.Value.{or_zero}
 use Rattle.lola_tree.specs.Cycle.{IsIn}
 use Rattle.lola_tree.specs.Signals.{input_names, register_names}
 use Rattle.lola_elab.specs.Small.{IsBit, IsSmallExpr, AreDistinct}
-use Rattle.tab_tree.specs.Table.{StateTree, SetTree, PhaseTree, ClassTree, TableTree}
-use Rattle.tab_tree.specs.Step.{loads_first}
+use Rattle.small_tree.specs.Table.{StateTree, SetTree, PhaseTree, ClassTree, TableTree}
+use Rattle.small_tree.specs.Step.{loads_first}
 
 -- what a table sees of a design: the name of its root, and of its inputs but the clock and of its registers
 -- those that are one bit wide

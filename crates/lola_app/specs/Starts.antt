@@ -2,8 +2,8 @@
 use Rattle.std.specs.Prelude.{◌≡◌, ℕ, Bool, if◌then◌else◌, List, [], ◌∷◌, Option, Some, None, bytes_eq, string_bytes}
 use Rattle.lola_elab.specs.Logic.{logic_value, bit_number}
 use Rattle.lola_elab.specs.Small.{IsSmallExpr}
-use Rattle.tab_tree.specs.Table.{SetTree}
-use Rattle.tab_tree.specs.Step.{no_names, table_value}
+use Rattle.small_tree.specs.Table.{SetTree}
+use Rattle.small_tree.specs.Step.{no_names, table_value}
 use Rattle.lola_app.specs.declared.states.Shown.{Shown}
 use Rattle.lola_app.specs.declared.claim.Start.{Start}
 use Rattle.lola_app.specs.Small.{IsNoName}

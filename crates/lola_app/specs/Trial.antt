@@ -5,7 +5,7 @@ use Rattle.lola_elab.specs.declared.vector.Vector.{Vector}
 use Rattle.lola_elab.specs.Elaborated.{vector_widths, leaf_widths}
 use Rattle.lola_elab.specs.Flat.{flat_width, flat_number}
 use Rattle.lola_elab.specs.Logic.{logic_value, bit_number}
-use Rattle.tab_tree.specs.Step.{fits_place}
+use Rattle.small_tree.specs.Step.{fits_place}
 use Rattle.lola_app.specs.declared.claim.Claim.{Claim}
 use Rattle.lola_app.specs.declared.claim.State.{State}
 use Rattle.lola_app.specs.declared.claim.Start.{Start}

@@ -1,5 +1,5 @@
 ghost use Rattle.std.specs.Prelude.{◌≡◌, ◌↔◌, ◌+◌, ◌≤◌, length, IfOk, IsTrue};
-ghost use Rattle.tab_tree.specs.Table.{table_tree};
+ghost use Rattle.small_tree.specs.Table.{table_tree};
 ghost use Rattle.lola_app.specs.Claiming.{IsClaimOf};
 ghost use Rattle.lola_app.specs.Small.{IsSmallTable};
 ghost use Rattle.lola_app.specs.Vectors.{interface_in};
@@ -13,8 +13,8 @@ use crate::rows::{check_sets, claimed_states, starts_of};
 use crate::scopes::{class_scope, register_scope};
 use crate::states::shown_states;
 use lola_elab::Logic;
+use small_tree::Table;
 use std::alloc::Global;
-use tab_tree::Table;
 
 /// A state: the leaf of its register, and its value after the instruction over the leaves before it.
 #[derive(Debug, Drop)]

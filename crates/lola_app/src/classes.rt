@@ -1,11 +1,11 @@
 ghost use Rattle.std.specs.Prelude.{◌≡◌, ◌↔◌, ℕ, [], ◌∷◌, List, map, IsTrue, MatchOption};
 ghost use Rattle.lola_tree.specs.Tree.{tree};
-ghost use Rattle.tab_tree.specs.Table.{class_tree, phase_tree, ClassTree};
+ghost use Rattle.small_tree.specs.Table.{class_tree, phase_tree, ClassTree};
 ghost use Rattle.lola_app.specs.Classes.{IsPlainPhase, IsTaken};
 ghost use Rattle.lola_app.specs.Small.{IsOne};
 
 use lola_tree::Expr;
-use tab_tree::{Class, Phase};
+use small_tree::{Class, Phase};
 
 /// The class of a table that has one.
 pub fn only_class(classes: &[Class]) -> Option<&Class>

@@ -3,14 +3,14 @@ ghost use Rattle.lola_app.specs.declared.fault.ReadError.TheVariants.{NotBuilt, 
 ghost use Rattle.lola_app.specs.Refused.{scan_refusal, parse_refusal, size_refusal, elab_refusal};
 ghost use Rattle.lola_scan.specs.declared.token.ScanError.TheVariants as scan;
 ghost use Rattle.lola_elab.specs.declared.fault.ElabError.TheVariants as elab;
-ghost use Rattle.tab_read.specs.declared.fault.TableFault.TheVariants as table;
+ghost use Rattle.small_read.specs.declared.fault.TableFault.TheVariants as table;
 
 use lola_elab::ElabError;
 use lola_parse::ParseError;
 use lola_scan::ScanError;
 use lola_width::SourceFault as SizeFault;
+use small_read::TableFault;
 use std::alloc::{AllocError, AllocFailed};
-use tab_read::TableFault;
 
 /// Why the text of a design is refused. `at` is an offset in bytes from 0.
 #[derive(Debug, Drop)]

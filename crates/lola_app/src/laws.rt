@@ -1,7 +1,7 @@
 ghost use Rattle.std.specs.Prelude.{◌≡◌, ◌≢◌, ◌⊎◌, ℕ, List};
 ghost use Rattle.lola_tree.specs.Tree.{SourceTree};
 ghost use Rattle.lola_elab.specs.Small.{IsSmallSource};
-ghost use Rattle.tab_tree.specs.Table.{TableTree};
+ghost use Rattle.small_tree.specs.Table.{TableTree};
 ghost use Rattle.lola_app.specs.Accepts.{Accepts, IsSpelled, Fits};
 ghost use Rattle.lola_app.specs.Headline.{Resets, Commutes};
 ghost use Rattle.lola_app.specs.Obligations.{AllHold};
@@ -11,7 +11,7 @@ ghost use Rattle.lola_app.specs.Serve.{IsDecided, IsUngrammatical};
 use lola_elab::{built_is_small, next_is_a_state};
 use lola_parse::one_tree;
 use lola_scan::one_reading;
-use tab_read::one_table;
+use small_read::one_table;
 
 /// Where all obligations of a table on a design hold, every reset cycle leaves a state that the
 /// table starts from, and every run from a state at a boundary shows at each boundary the states

@@ -5,7 +5,7 @@ ghost use Rattle.lola_elab.specs.Logic.{logic_value, bit_number};
 ghost use Rattle.lola_elab.specs.Scope.{HasReading, Reads};
 ghost use Rattle.lola_elab.specs.Small.{IsSmallExpr};
 ghost use Rattle.lola_app.specs.Small.{IsNoName};
-ghost use Rattle.tab_tree.specs.Step.{no_names, table_value};
+ghost use Rattle.small_tree.specs.Step.{no_names, table_value};
 
 use crate::fault::ReadError;
 use lola_elab::{Logic, Scope, resolve};

@@ -1,13 +1,13 @@
 ghost use Rattle.std.specs.Prelude.{◌≡◌, ◌↔◌, map, string_bytes, IfOk, IsTrue, MatchOption};
 ghost use Rattle.lola_tree.specs.Cycle.{IsIn};
 ghost use Rattle.lola_elab.specs.Small.{AreDistinct};
-ghost use Rattle.tab_tree.specs.Table.{state_tree, set_tree, StateTree, SetTree};
+ghost use Rattle.small_tree.specs.Table.{state_tree, set_tree, StateTree, SetTree};
 ghost use Rattle.lola_app.specs.Naming.{IsAt};
 
 use lola_elab::add_name;
+use small_tree::{SetRow, StateRow};
 use std::alloc::{AllocError, Global};
 use std::collections::BTreeSet;
-use tab_tree::{SetRow, StateRow};
 
 /// The place of a name in a list, from 0.
 pub fn place_of(names: &[String], name: &str) -> Option<usize>

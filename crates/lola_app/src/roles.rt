@@ -1,11 +1,11 @@
 ghost use Rattle.std.specs.Prelude.{◌≡◌, map, string_bytes, IfOk};
-ghost use Rattle.tab_tree.specs.Table.{table_tree};
+ghost use Rattle.small_tree.specs.Table.{table_tree};
 ghost use Rattle.lola_app.specs.Shown.{AreRoles};
 ghost use Rattle.lola_app.specs.Small.{AreSmallRoles};
 
 use crate::fault::ReadError;
 use crate::names::place_of;
-use tab_tree::Table;
+use small_tree::Table;
 
 /// The leaves of RESET's port, and of LOADED's where there is that role.
 #[derive(Clone, Copy, Debug, PartialEq, Eq)]

@@ -1,7 +1,7 @@
 ghost use Rattle.std.specs.Prelude.{◌≡◌, ℕ, List, map, string_bytes, IfOk, OnOk};
 ghost use Rattle.std.specs.List.{AllByRecursion};
 ghost use Rattle.lola_elab.specs.Scope.{HasReading};
-ghost use Rattle.tab_tree.specs.Table.{set_tree};
+ghost use Rattle.small_tree.specs.Table.{set_tree};
 ghost use Rattle.lola_app.specs.declared.states.Shown.{Shown as Showing};
 ghost use Rattle.lola_app.specs.Claiming.{AreEach};
 ghost use Rattle.lola_app.specs.Fitting.{IsSetBy, IsSetState};
@@ -14,8 +14,8 @@ use crate::meaning::{constant, meaning};
 use crate::names::are_distinct_rows;
 use crate::states::Shown;
 use lola_elab::{Logic, Scope};
+use small_tree::SetRow;
 use std::alloc::Global;
-use tab_tree::SetRow;
 
 /// The states of a claim, each with its value after the instruction.
 pub fn claimed_states(

@@ -1,7 +1,7 @@
 ghost use Rattle.std.specs.Prelude.{◌≡◌, ◌↔◌, ◌+◌, ◌≤◌, length, map, List, ℕ, [], ◌∷◌, string_bytes, IfOk, IsTrue, MatchOption};
 ghost use Rattle.std.specs.List.{AllByRecursion};
 ghost use Rattle.lola_tree.specs.Tree.{tree};
-ghost use Rattle.tab_tree.specs.Table.{state_tree};
+ghost use Rattle.small_tree.specs.Table.{state_tree};
 ghost use Rattle.lola_elab.specs.Small.{IsBit};
 ghost use Rattle.lola_app.specs.Claiming.{AreEach};
 ghost use Rattle.lola_app.specs.Shown.{IsShown, IsSourceName};
@@ -13,8 +13,8 @@ use crate::fault::ReadError;
 use crate::names::{are_distinct_states, place_of};
 use lola_bits::Name;
 use lola_tree::{Count, Expr, Shape};
+use small_tree::StateRow;
 use std::alloc::Global;
-use tab_tree::StateRow;
 
 /// The most states of a table in the small form.
 const STATE_LIMIT: usize = 64;

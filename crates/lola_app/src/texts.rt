@@ -2,7 +2,7 @@ ghost use Rattle.std.specs.Prelude.{◌≡◌, ◌+◌, ◌≤◌, length, IfOk,
 ghost use Rattle.lola_scan.specs.Tokens.{Scanned};
 ghost use Rattle.lola_parse.specs.Symbols.{AreIn};
 ghost use Rattle.lola_tree.specs.Tree.{source_tree};
-ghost use Rattle.tab_tree.specs.Table.{TableTree};
+ghost use Rattle.small_tree.specs.Table.{TableTree};
 ghost use Rattle.lola_app.specs.Accepts.{IsSpelled};
 ghost use Rattle.lola_app.specs.Made.{IsSourceOf, IsDesignOf, IsTableOf};
 ghost use Rattle.lola_app.specs.Refused.{HasRefusal, HasLong};
@@ -23,8 +23,8 @@ use lola_parse::{parse, tokens_lie_within};
 use lola_scan::{ScanError, Token, one_reading, scan};
 use lola_tree::Source;
 use lola_width::sizes;
+use small_read::{one_table, read_table};
 use std::alloc::Global;
-use tab_read::{one_table, read_table};
 
 /// What `decide` comes to for the text of a design and that of a table.
 pub fn decide_texts(alloc: Global, source: &[u8], table: &[u8]) -> Reply

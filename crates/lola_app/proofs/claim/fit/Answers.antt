@@ -1,5 +1,5 @@
 use Rattle.std.proofs.Common.{◌≡◌, [], ◌∷◌, refl, sym, ap, subst, ◌∙◌, map, length, string_bytes}
-use Rattle.tab_tree.specs.Table.{table_tree, class_tree, phase_tree, state_tree, set_tree}
+use Rattle.small_tree.specs.Table.{table_tree, class_tree, phase_tree, state_tree, set_tree}
 use Rattle.std.specs.List.{AllByRecursion}
 use Rattle.lola_elab.specs.Scope.{HasReading}
 use Rattle.lola_app.specs.declared.states.Shown.{Shown}

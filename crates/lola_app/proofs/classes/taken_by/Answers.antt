@@ -1,5 +1,5 @@
 use Rattle.std.proofs.Common.{◌≡◌, refl, true, false, ◌∙◌, sym}
-use Rattle.tab_tree.specs.Table.{phase_tree}
+use Rattle.small_tree.specs.Table.{phase_tree}
 use Rattle.lola_app.proofs.SetRows.{taken_on, taken_off}
 use Rattle.lola_app.proofs.classes.taken_by.Goals as goal
 

@@ -6,7 +6,7 @@ use Rattle.lola_elab.specs.declared.scope.Scope.{Scope}
 use Rattle.lola_elab.specs.Logic.{logic_value, bit_number}
 use Rattle.lola_elab.specs.Scope.{HasReading, Reads}
 use Rattle.lola_elab.specs.Small.{IsSmallExpr}
-use Rattle.tab_tree.specs.Step.{no_names, table_value}
+use Rattle.small_tree.specs.Step.{no_names, table_value}
 use Rattle.lola_app.specs.Small.{IsNoName}
 use Rattle.lola_app.proofs.ScopeMeans.{small_map, no_reading, no_reads}
 use Rattle.lola_app.proofs.meaning.constant.Goals as goal

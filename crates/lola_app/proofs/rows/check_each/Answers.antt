@@ -1,6 +1,6 @@
 use Rattle.std.proofs.Common.{map, string_bytes}
 use Rattle.lola_elab.specs.Scope.{HasReading}
-use Rattle.tab_tree.specs.Table.{set_tree}
+use Rattle.small_tree.specs.Table.{set_tree}
 use Rattle.lola_app.specs.declared.states.Shown.{Shown}
 use Rattle.lola_app.specs.Small.{IsSmallRow}
 use Rattle.lola_app.proofs.ByRow.{all_at, all_row, same_fault}

@@ -1,7 +1,7 @@
 use Rattle.std.proofs.Common.{take, map, string_bytes}
 use Rattle.std.specs.List.{AllByRecursion}
 use Rattle.lola_elab.specs.Scope.{HasReading}
-use Rattle.tab_tree.specs.Table.{set_tree}
+use Rattle.small_tree.specs.Table.{set_tree}
 use Rattle.lola_app.specs.declared.states.Shown.{Shown}
 use Rattle.lola_app.specs.Small.{IsSmallRow}
 use Rattle.lola_app.proofs.rows.check_each.Given as goal

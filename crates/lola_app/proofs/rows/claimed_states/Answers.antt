@@ -1,5 +1,5 @@
 use Rattle.std.proofs.Common.{map}
-use Rattle.tab_tree.specs.Table.{set_tree}
+use Rattle.small_tree.specs.Table.{set_tree}
 use Rattle.lola_app.specs.Fitting.{IsSetState}
 use Rattle.lola_app.proofs.ByRow.{same_fault}
 use Rattle.lola_app.proofs.ShownStates.{each_item}

@@ -1,5 +1,5 @@
 use Rattle.std.proofs.Common.{map, string_bytes}
-use Rattle.tab_tree.specs.Table.{set_tree}
+use Rattle.small_tree.specs.Table.{set_tree}
 use Rattle.lola_app.specs.declared.states.Shown.{Shown}
 use Rattle.lola_app.specs.Small.{IsSmallRow, IsNoName}
 use Rattle.lola_app.specs.Starts.{IsStartRow}

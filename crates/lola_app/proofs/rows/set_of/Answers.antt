@@ -5,8 +5,8 @@ use Rattle.lola_tree.specs.declared.named.Ref.{Ref}
 use Rattle.lola_tree.specs.Tree.{tree}
 use Rattle.lola_elab.specs.Logic.{logic_value, bit_number}
 use Rattle.lola_elab.specs.Scope.{HasReading, Reads}
-use Rattle.tab_tree.specs.Table.{set_tree}
-use Rattle.tab_tree.specs.Step.{set_value, table_value}
+use Rattle.small_tree.specs.Table.{set_tree}
+use Rattle.small_tree.specs.Step.{set_value, table_value}
 use Rattle.lola_app.specs.Small.{IsSmallRow}
 use Rattle.lola_app.proofs.ByRow.{all_at}
 use Rattle.lola_app.proofs.SetRows.{at_row}

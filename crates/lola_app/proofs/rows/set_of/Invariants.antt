@@ -1,7 +1,7 @@
 use Rattle.std.proofs.Common.{◌≡◌, ℕ, drop, map, string_bytes}
 use Rattle.lola_tree.specs.declared.named.Ref.{Ref}
-use Rattle.tab_tree.specs.Table.{set_tree}
-use Rattle.tab_tree.specs.Step.{set_value}
+use Rattle.small_tree.specs.Table.{set_tree}
+use Rattle.small_tree.specs.Step.{set_value}
 use Rattle.lola_app.proofs.rows.set_of.Given as goal
 
 -- the row that counts is behind, if there is one

@@ -1,6 +1,6 @@
 use Rattle.std.proofs.Common.{map, string_bytes}
 use Rattle.std.proofs.lemmas.Result.{IfOk-weaker}
-use Rattle.tab_tree.specs.Table.{set_tree}
+use Rattle.small_tree.specs.Table.{set_tree}
 use Rattle.lola_app.specs.declared.states.Shown.{Shown}
 use Rattle.lola_app.specs.Claiming.{AreEach}
 use Rattle.lola_app.specs.Small.{AreSmallRows, IsNoName}

@@ -1,4 +1,4 @@
-use Rattle.tab_tree.specs.Table.{state_tree}
+use Rattle.small_tree.specs.Table.{state_tree}
 use Rattle.lola_app.specs.Vectors.{interface_in}
 use Rattle.lola_app.specs.Shown.{IsShown}
 use Rattle.lola_app.specs.Small.{IsSmallState}

@@ -1,5 +1,5 @@
 use Rattle.std.proofs.Common.{map, take}
-use Rattle.tab_tree.specs.Table.{state_tree}
+use Rattle.small_tree.specs.Table.{state_tree}
 use Rattle.lola_app.specs.Claiming.{AreEach}
 use Rattle.lola_app.specs.Shown.{IsShown}
 use Rattle.lola_app.specs.Vectors.{interface_in}

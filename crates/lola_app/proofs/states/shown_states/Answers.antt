@@ -1,6 +1,6 @@
 use Rattle.std.proofs.Common.{map, arith}
 use Rattle.std.proofs.lemmas.Result.{IfOk-weaker}
-use Rattle.tab_tree.specs.Table.{state_tree}
+use Rattle.small_tree.specs.Table.{state_tree}
 use Rattle.lola_app.specs.Claiming.{AreEach}
 use Rattle.lola_app.specs.Shown.{IsShown}
 use Rattle.lola_app.specs.Small.{AreSmallStates}

@@ -3,8 +3,8 @@ use Rattle.std.specs.Prelude.{Err}
 use Rattle.lola_parse.specs.declared.symbol.Language.TheVariants.{Table}
 use Rattle.lola_parse.specs.Symbols.{items_of}
 use Rattle.lola_scan.specs.declared.token.Token.{Token}
-use Rattle.tab_tree.specs.Table.{table_tree}
-use Rattle.tab_read.specs.Grammar.{SpellsTable}
+use Rattle.small_tree.specs.Table.{table_tree}
+use Rattle.small_read.specs.Grammar.{SpellsTable}
 use Rattle.lola_app.specs.Small.{IsSmallTable}
 use Rattle.lola_app.specs.Vectors.{interface_in}
 use Rattle.lola_app.proofs.ByRow.{fault_is}
