@@ -3,11 +3,13 @@ use Rattle.std.proofs.Common.{◌≡◌, ℕ, ◌+◌, ◌*◌, ◌/◌, ◌%◌
 use Rattle.std.proofs.lemmas.List.{length-map}
 use Rattle.std.proofs.lemmas.Bool.{cases_Bool, cond-true, cond-false}
 use Rattle.std.specs.List.{AllByRecursion}
+use Rattle.lola_bits.specs.BitLists.{number_of}
+use Rattle.lola_bits.proofs.BitLists.{pow_more}
+use Rattle.lola_bits.proofs.Options.{some_same}
 use Rattle.lola_alg.specs.Algebra.{Calls, Meaning, Stays, Answers, IsAlgebra}
 use Rattle.lola_alg.specs.Steps.{into, pairs_step, choose_step, halve_step, read_step, is_place_from, write_from}
-use Rattle.lola_alg.specs.Means.{AreKnown, number_of, number_at, AreWide, MeansNumber, MeansNumbers, IsArray, number_in, with_number}
-use Rattle.lola_alg.proofs.Bools.{pow_more}
-use Rattle.lola_alg.proofs.BitMeans.{into_made, some_is, Has, itself, has_later, made_has, stays_same, answers_since, kept_bit, both_answers, negated_answers}
+use Rattle.lola_alg.specs.Means.{AreKnown, number_at, AreWide, MeansNumber, MeansNumbers, IsArray, number_in, with_number}
+use Rattle.lola_alg.proofs.BitMeans.{into_made, Has, itself, has_later, made_has, stays_same, answers_since, kept_bit, both_answers, negated_answers}
 use Rattle.lola_alg.proofs.Loops.{stays_then, stay_known}
 use Rattle.lola_alg.proofs.ListMeans.{values, values_stay}
 use Rattle.lola_alg.proofs.WordMeans.{number_since, choose_means, constant_has}
@@ -41,7 +43,7 @@ module _ {D B : Type 0} (m : Meaning D B) where
       record { stays = stays_then m d e made.0 stays a.stays; known = a.known; wide = a.wide; means = λ v. a.means v ∙ same v }
 
   nothing_made : (d : D) (made : D × List (List B)) (width : ℕ) → Some (d, []) ≡ Some made → MeansNumbers m d made.0 made.1 width (λ v. [])
-  nothing_made d made width e = subst (λ n. MeansNumbers m d n.0 n.1 width (λ v. [])) (some_is (d, []) made e) (record { stays = stays_same m d; known = tt; wide = tt; means = λ v. refl })
+  nothing_made d made width e = subst (λ n. MeansNumbers m d n.0 n.1 width (λ v. [])) (some_same (d, []) made e) (record { stays = stays_same m d; known = tt; wide = tt; means = λ v. refl })
 
   -- an element, and then the rest
   one_more : (d : D) (first : D × List B) (made : D × List (List B)) (width : ℕ) (x : (ℕ → Bool) → ℕ) (xs : (ℕ → Bool) → List ℕ) →
@@ -67,7 +69,7 @@ module _ {D B : Type 0} (c : Calls D B) (m : Meaning D B) (law : IsAlgebra c m) 
       record { stays = one.stays; known = one.known; long = one.long ∙ wide.1.0; means = one.means } in
       let rest = halve_means b more width i.0.0 j.0 (one.stays b kb).0 (all_stay m d i.0.0 more one.stays known.1.1) wide.1.1 j.1.0 in
       let all = one_more m d i.0 j.0 width (λ v. cond (m.value d v b) (number_at m d v y) (number_at m d v x)) (λ v. halve_of (m.value i.0.0 v b) (numbers m i.0.0 v more)) first rest in
-      let is : (j.0.0, i.0.1 ∷ j.0.1) ≡ made = some_is (j.0.0, i.0.1 ∷ j.0.1) made j.1.1 in
+      let is : (j.0.0, i.0.1 ∷ j.0.1) ≡ made = some_same (j.0.0, i.0.1 ∷ j.0.1) made j.1.1 in
       subst (λ n. MeansNumbers m d n.0 n.1 width (λ v. halve_of (m.value d v b) (numbers m d v (x ∷ y ∷ more)))) is
       (numbers_since m d d (j.0.0, i.0.1 ∷ j.0.1) width (λ v. cond (m.value d v b) (number_at m d v y) (number_at m d v x) ∷ halve_of (m.value i.0.0 v b) (numbers m i.0.0 v more))
       (λ v. halve_of (m.value d v b) (numbers m d v (x ∷ y ∷ more))) (stays_same m d)
@@ -79,7 +81,7 @@ module _ {D B : Type 0} (c : Calls D B) (m : Meaning D B) (law : IsAlgebra c m) 
   element_means [] [] width d made count known wide kp e = absurd (omega arith)
   element_means [] (x ∷ y ∷ more) width d made count known wide kp e = absurd (omega arith)
   element_means [] (x ∷ []) width d made count known wide kp e =
-      subst (λ n. MeansNumber m d n.0 n.1 width (λ v. number_in (numbers m d v (x ∷ [])) 0)) (some_is (d, x) made e)
+      subst (λ n. MeansNumber m d n.0 n.1 width (λ v. number_in (numbers m d v (x ∷ [])) 0)) (some_same (d, x) made e)
       (record { stays = stays_same m d; known = known.0; long = wide.0; means = λ v. refl })
   element_means (b ∷ bs) elements width d made count known wide kp e =
       let i = into_made (halve_step c b elements d) _ made e in
@@ -166,7 +168,7 @@ module _ {D B : Type 0} (c : Calls D B) (m : Meaning D B) (law : IsAlgebra c m) 
       let rest = elements_means place value (k + 1) more width d2 r.0 (omega arith) long kp2 kv2 (all_stay m d d2 more to2 known.1) wide.1 r.1.0 in
       let all = one_more m d j.0 r.0 width (λ v. cond (nat_eq (number_at m d v place) k) (number_at m d v value) (number_at m d v old))
       (λ v. written (number_at m d2 v place) (number_at m d2 v value) (k + 1) (numbers m d2 v more)) first rest in
-      let is : (r.0.0, j.0.1 ∷ r.0.1) ≡ made = some_is (r.0.0, j.0.1 ∷ r.0.1) made r.1.1 in
+      let is : (r.0.0, j.0.1 ∷ r.0.1) ≡ made = some_same (r.0.0, j.0.1 ∷ r.0.1) made r.1.1 in
       subst (λ n. MeansNumbers m d n.0 n.1 width (λ v. written (number_at m d v place) (number_at m d v value) k (numbers m d v (old ∷ more)))) is
       (numbers_since m d d (r.0.0, j.0.1 ∷ r.0.1) width
       (λ v. cond (nat_eq (number_at m d v place) k) (number_at m d v value) (number_at m d v old) ∷ written (number_at m d2 v place) (number_at m d2 v value) (k + 1) (numbers m d2 v more))

@@ -3,8 +3,9 @@ use Rattle.std.proofs.Common.{◌≡◌, ℕ, zero, suc, ◌+◌, ◌-◌, ◌*�
 use Rattle.std.proofs.lemmas.Bool.{cases_Bool, cond-true, cond-false, ne_eqb}
 use Rattle.std.proofs.lemmas.Bool.Decides.{nat_tests}
 use Rattle.lola_bits.specs.Number.{number}
-use Rattle.lola_alg.specs.Means.{number_of, number_in, with_number}
-use Rattle.lola_alg.proofs.Bools.{pow_more}
+use Rattle.lola_bits.specs.BitLists.{number_of}
+use Rattle.lola_bits.proofs.BitLists.{pow_more}
+use Rattle.lola_alg.specs.Means.{number_in, with_number}
 
 -- each second number, by a bit
 abbrev pub halve_of : Bool → List ℕ → List ℕ

@@ -1,5 +1,6 @@
 -- Each step that makes one bit answers as its truth function says.
 use Rattle.std.proofs.Common.{◌≡◌, ℕ, Bool, true, false, cond, not, ◌&&◌, Option, Some, None, refl, ap, ap₂, subst, ◌∙◌}
+use Rattle.lola_bits.proofs.Options.{some_same}
 use Rattle.lola_alg.specs.Algebra.{Calls, Meaning, Stays, Answers, IsAlgebra}
 use Rattle.lola_alg.specs.Steps.{Step, into, not_step, both_step, either_step, differ_step, choose_step, adder_step, equal_here, less_here}
 use Rattle.lola_alg.proofs.Bools.{either, differ, sum_bit, next_carry}
@@ -11,9 +12,6 @@ pub into_made : {D X Y : Type 0} (first : Option (D × X)) (next : X → Step D 
     (x : D × X) × ((first ≡ Some x) × (next x.1 x.0 ≡ Some made))
 into_made None next made e = absurd (cc)
 into_made (Some x) next made e = (x, (refl, e))
-
-pub some_is : {X : Type 0} (x y : X) → Some x ≡ Some y → x ≡ y
-some_is x y e = cc
 
 module _ {D B : Type 0} (m : Meaning D B) where
   -- a known bit has this value under each assignment
@@ -42,7 +40,7 @@ module _ {D B : Type 0} (m : Meaning D B) where
 
   -- a step that makes nothing answers the bit that was there
   pub kept_bit : (d : D) (b : B) (made : D × B) (f : (ℕ → Bool) → Bool) → Has d b f → Some (d, b) ≡ Some made → Answers m d made f
-  kept_bit d b made f h e = subst (λ n. Answers m d n f) (some_is (d, b) made e) (record { stays = stays_same d; known = h.known; means = h.means })
+  kept_bit d b made f h e = subst (λ n. Answers m d n f) (some_same (d, b) made e) (record { stays = stays_same d; known = h.known; means = h.means })
 
 module _ {D B : Type 0} (c : Calls D B) (m : Meaning D B) (law : IsAlgebra c m) where
   pub negated_answers : (d : D) (a : B) (x : (ℕ → Bool) → Bool) → Has m d a x → Answers m d (c.negated d a) (λ v. not (x v))
@@ -56,7 +54,7 @@ module _ {D B : Type 0} (c : Calls D B) (m : Meaning D B) (law : IsAlgebra c m) 
       record { stays = n.stays; known = n.known; means = λ v. n.means v ∙ ap₂ (λ p q. p && q) (h.means v) (k.means v) }
 
   pub not_answers : (d : D) (a : B) (x : (ℕ → Bool) → Bool) (made : D × B) → Has m d a x → not_step c a d ≡ Some made → Answers m d made (λ v. not (x v))
-  not_answers d a x made h e = subst (λ n. Answers m d n (λ v. not (x v))) (some_is (c.negated d a) made e) (negated_answers d a x h)
+  not_answers d a x made h e = subst (λ n. Answers m d n (λ v. not (x v))) (some_same (c.negated d a) made e) (negated_answers d a x h)
 
   -- neither of two bits, before it is negated
   neither_answers : (d : D) (a b : B) (x y : (ℕ → Bool) → Bool) (made : D × B) → Has m d a x → Has m d b y →
@@ -193,6 +191,6 @@ module _ {D B : Type 0} (c : Calls D B) (m : Meaning D B) (law : IsAlgebra c m) 
       let d5 : D = u.0.0 in
       let from2 : Stays m d2 d5 = stays_then m d2 d3 d5 g.stays (stays_then m d3 d4 d5 q.stays o.stays) in
       let from1 : Stays m d d5 = stays_then m d d1 d5 p.stays (stays_then m d1 d2 d5 s.stays from2) in
-      let is : (d5, (j.0.1, u.0.1)) ≡ made = some_is (d5, (j.0.1, u.0.1)) made u.1.1 in
+      let is : (d5, (j.0.1, u.0.1)) ≡ made = some_same (d5, (j.0.1, u.0.1)) made u.1.1 in
       subst (λ n. Adds d n (λ v. sum_bit (x v) (y v) (w v)) (λ v. next_carry (x v) (y v) (w v))) {x = (d5, (j.0.1, u.0.1))} is
       (record { stays = from1; bit = has_later m d2 d5 j.0.1 (λ v. sum_bit (x v) (y v) (w v)) from2 hs; next = ho })

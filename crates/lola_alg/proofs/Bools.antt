@@ -1,8 +1,9 @@
 -- Lists of truth values, the lowest first, and the numbers that they make.
-use Rattle.std.proofs.Common.{◌≡◌, ℕ, suc, ◌+◌, ◌*◌, ◌/◌, ◌%◌, ◌^◌, ◌<◌, Bool, true, false, cond, not, ◌&&◌, List, [], ◌∷◌, map, length, bit_and, bit_or, bit_xor, refl, sym, ap, ap₂, ◌∙◌, arith, pow-suc}
-use Rattle.std.proofs.lemmas.Nat.{and_block, or_block, xor_block, mod-pow-add}
+use Rattle.std.proofs.Common.{◌≡◌, ℕ, suc, ◌+◌, ◌*◌, ◌%◌, ◌^◌, ◌<◌, Bool, true, false, cond, not, ◌&&◌, List, [], ◌∷◌, map, length, bit_and, bit_or, bit_xor, refl, sym, ap, ap₂, ◌∙◌, arith}
+use Rattle.std.proofs.lemmas.Nat.{and_block, or_block, xor_block}
 use Rattle.lola_bits.specs.Number.{number}
-use Rattle.lola_alg.specs.Means.{number_of}
+use Rattle.lola_bits.proofs.BitLists.{number_lt, pow_more, mod_more}
+use Rattle.lola_bits.specs.BitLists.{number_of}
 
 -- as the steps make it: not (not a and not b)
 abbrev pub either : Bool → Bool → Bool
@@ -24,17 +25,6 @@ abbrev pub fold_of : (Bool → Bool → Bool → Bool) → List Bool → List Bo
 fold_of f [] ys so = so
 fold_of f (x ∷ xs) [] so = so
 fold_of f (x ∷ xs) (y ∷ ys) so = fold_of f xs ys (f x y so)
-
-pub number_lt : (b : Bool) → number b < 2
-number_lt true = omega arith
-number_lt false = omega arith
-
-pub pow_more : (n : ℕ) → 2 ^ suc n ≡ 2 * 2 ^ n
-pow_more n = let p = pow-suc 2 n in omega arith
-
-pub number_below : (xs : List Bool) → number_of xs < 2 ^ length xs
-number_below [] = omega arith
-number_below (x ∷ xs) = let h = number_below xs in let b = number_lt x in let p = pow_more (length xs) in omega arith
 
 pub pairs_long : (f : Bool → Bool → Bool) (xs ys : List Bool) → length ys ≡ length xs → length (pairs_of f xs ys) ≡ length xs
 pairs_long f [] ys e = refl
@@ -98,16 +88,6 @@ choose_pairs t [] (y ∷ ys) e = absurd (omega arith)
 choose_pairs t (x ∷ xs) [] e = absurd (omega arith)
 choose_pairs true (x ∷ xs) (y ∷ ys) e = ap (λ zs. x ∷ zs) (choose_pairs true xs ys (omega arith))
 choose_pairs false (x ∷ xs) (y ∷ ys) e = ap (λ zs. y ∷ zs) (choose_pairs false xs ys (omega arith))
-
--- the lowest bit stays below a power of 2
-pub mod_more : (b : Bool) (k n : ℕ) → (number b + 2 * k) % 2 ^ suc n ≡ number b + 2 * (k % 2 ^ n)
-mod_more b k n =
-    let split = mod-pow-add (number b + 2 * k) n 1 in
-    let low = number_lt b in
-    let half : (number b + 2 * k) / 2 ^ 1 ≡ k = omega arith in
-    let rest : (number b + 2 * k) % 2 ^ 1 ≡ number b = omega arith in
-    let more : n + 1 ≡ suc n = omega arith in
-    ap (λ j. (number b + 2 * k) % 2 ^ j) (sym more) ∙ (split ∙ (ap₂ (λ h r. (h % 2 ^ n) * 2 ^ 1 + r) half rest ∙ omega arith))
 
 -- the sum of two bits and a carry, the carry that it makes, and the sum of two lists from a carry on
 abbrev pub sum_bit : Bool → Bool → Bool → Bool

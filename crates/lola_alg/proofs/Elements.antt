@@ -1,6 +1,7 @@
 -- Arrays, element by element.
 use Rattle.std.proofs.Common.{◌≡◌, ℕ, zero, suc, ◌+◌, ◌*◌, ◌/◌, ◌<◌, ◌≤◌, List, [], ◌∷◌, ◌++◌, length, drop, get_or, true, Option, Some, None, refl, sym, ap, subst, ◌∙◌, arith, append-nil, length-drop}
 use Rattle.std.proofs.lemmas.List.{drop_more}
+use Rattle.lola_bits.proofs.All.{all_append}
 use Rattle.lola_alg.specs.declared.algebra.AlgError.{AlgError}
 use Rattle.lola_alg.specs.declared.algebra.AlgError.TheVariants.{Full, Memory}
 use Rattle.lola_alg.specs.Algebra.{Calls}
@@ -9,7 +10,6 @@ use Rattle.lola_alg.specs.Means.{AreWide}
 use Rattle.lola_alg.specs.Gates.{write_here}
 use Rattle.lola_alg.specs.Loops.{GoesOn}
 use Rattle.lola_alg.proofs.Loops.{goes_on_more}
-use Rattle.lola_alg.proofs.Moved.{each_append}
 
 -- where one of the steps has no place, all of them have none
 abbrev pub FailsWith : {D X : Type 0} → Option (D × X) → AlgError → Type 0
@@ -72,7 +72,7 @@ wide_at width (x ∷ elements) (suc at) e within is all = wide_at width elements
 
 pub wide_more : {B : Type 0} (width : ℕ) (elements : List (List B)) (at : ℕ) (e : List B) (made : List (List B)) (z : List B) → at < length elements → e ≡ get_or elements at e →
     AreWide width elements → length z ≡ length e → AreWide width made → (items : List (List B)) → items ≡ made ++ z ∷ [] → AreWide width items
-wide_more width elements at e made z within is all long before items same = subst (AreWide width) (sym same) (each_append (λ e. length e ≡ width) made (z ∷ []) before (long ∙ wide_at width elements at e within is all, tt))
+wide_more width elements at e made z within is all long before items same = subst (AreWide width) (sym same) (all_append (λ e. length e ≡ width) made (z ∷ []) before (long ∙ wide_at width elements at e within is all, tt))
 
 -- one more element is written
 pub write_more : {D B : Type 0} (c : Calls D B) (place value : List B) (elements : List (List B)) (at : ℕ) (old : List B) (before now : D) (made : List (List B)) (whole : Option (D × List (List B)))

@@ -1,10 +1,11 @@
 -- Each step over vectors makes known bits whose values are the list that its truth function makes.
 use Rattle.std.proofs.Common.{◌≡◌, ℕ, ◌+◌, ◌^◌, Bool, true, cond, List, [], ◌∷◌, map, Some, refl, ap, ap₂, subst, ◌∙◌}
+use Rattle.lola_bits.proofs.Options.{some_same}
 use Rattle.lola_alg.specs.Algebra.{Calls, Meaning, Stays, Answers, IsAlgebra}
 use Rattle.lola_alg.specs.Steps.{Step, each_step, pairs_step, choose_step, adder_step, carry_step, fold_step, moves_step}
 use Rattle.lola_alg.specs.Means.{AreKnown}
 use Rattle.lola_alg.proofs.Bools.{pairs_of, fold_of, add_of, sum_bit, next_carry}
-use Rattle.lola_alg.proofs.BitMeans.{into_made, some_is, kept_bit, Has, itself, has_later, made_has, stays_same, answers_since, adder_answers, choose_answers}
+use Rattle.lola_alg.proofs.BitMeans.{into_made, kept_bit, Has, itself, has_later, made_has, stays_same, answers_since, adder_answers, choose_answers}
 use Rattle.lola_alg.proofs.Loops.{stays_then, stay_known}
 
 -- for each bit of the second list, the lowest first: moved by 2 to its place where it is 1
@@ -32,7 +33,7 @@ module _ {D B : Type 0} (m : Meaning D B) where
 
   -- a step that makes nothing leaves the bits that were there
   pub kept_bits : (d : D) (bits : List B) (made : D × List B) → AreKnown m d bits → Some (d, bits) ≡ Some made → MeansBits d made (λ v. values d v bits)
-  kept_bits d bits made known e = subst (λ n. MeansBits d n (λ v. values d v bits)) (some_is (d, bits) made e) (record { stays = stays_same m d; known = known; means = λ v. refl })
+  kept_bits d bits made known e = subst (λ n. MeansBits d n (λ v. values d v bits)) (some_same (d, bits) made e) (record { stays = stays_same m d; known = known; means = λ v. refl })
 
   -- a bit, and then the rest
   pub one_made : (d : D) (first : D × B) (made : D × List B) (x : (ℕ → Bool) → Bool) (xs : (ℕ → Bool) → List Bool) →
@@ -50,7 +51,7 @@ module _ {D B : Type 0} (m : Meaning D B) where
       let one = ok d x i.0 known.0 i.1.0 in
       let rest = each_means f g ok xs i.0.0 j.0 (stay_known m d i.0.0 xs one.stays known.1) j.1.0 in
       let all = one_made d i.0 j.0 (λ v. g (m.value d v x)) (λ v. map g (values i.0.0 v xs)) one rest in
-      subst (λ n. MeansBits d n (λ v. map g (values d v (x ∷ xs)))) (some_is (j.0.0, i.0.1 ∷ j.0.1) made j.1.1)
+      subst (λ n. MeansBits d n (λ v. map g (values d v (x ∷ xs)))) (some_same (j.0.0, i.0.1 ∷ j.0.1) made j.1.1)
       (bits_since d d (j.0.0, i.0.1 ∷ j.0.1) (λ v. g (m.value d v x) ∷ map g (values i.0.0 v xs)) (λ v. map g (values d v (x ∷ xs))) (stays_same m d)
       (λ v. ap (λ ys. g (m.value d v x) ∷ map g ys) (values_stay d i.0.0 xs one.stays known.1 v)) all)
 
@@ -70,7 +71,7 @@ module _ {D B : Type 0} (m : Meaning D B) where
       let one = ok d since_d x y i.0 kx.0 ky.0 i.1.0 in
       let rest = pairs_means since f g ok xs ys i.0.0 j.0 (stays_then m since d i.0.0 since_d one.stays) (stay_known m d i.0.0 xs one.stays kx.1) (stay_known m d i.0.0 ys one.stays ky.1) j.1.0 in
       let all = one_made d i.0 j.0 (λ v. g v (m.value d v x) (m.value d v y)) (λ v. pairs_of (g v) (values i.0.0 v xs) (values i.0.0 v ys)) one rest in
-      subst (λ n. MeansBits d n (λ v. pairs_of (g v) (values d v (x ∷ xs)) (values d v (y ∷ ys)))) (some_is (j.0.0, i.0.1 ∷ j.0.1) made j.1.1)
+      subst (λ n. MeansBits d n (λ v. pairs_of (g v) (values d v (x ∷ xs)) (values d v (y ∷ ys)))) (some_same (j.0.0, i.0.1 ∷ j.0.1) made j.1.1)
       (bits_since d d (j.0.0, i.0.1 ∷ j.0.1) (λ v. g v (m.value d v x) (m.value d v y) ∷ pairs_of (g v) (values i.0.0 v xs) (values i.0.0 v ys))
       (λ v. pairs_of (g v) (values d v (x ∷ xs)) (values d v (y ∷ ys))) (stays_same m d)
       (λ v. ap₂ (λ us ws. g v (m.value d v x) (m.value d v y) ∷ pairs_of (g v) us ws) (values_stay d i.0.0 xs one.stays kx.1 v) (values_stay d i.0.0 ys one.stays ky.1 v)) all)
@@ -103,7 +104,7 @@ module _ {D B : Type 0} (c : Calls D B) (m : Meaning D B) (law : IsAlgebra c m) 
       let first : Answers m d (i.0.0, i.0.1.0) bit = record { stays = one.stays; known = one.bit.known; means = one.bit.means } in
       let rest = carry_means xs ys i.0.0 i.0.1.1 next j.0 (stay_known m d i.0.0 xs one.stays kx.1) (stay_known m d i.0.0 ys one.stays ky.1) one.next j.1.0 in
       let all = one_made m d (i.0.0, i.0.1.0) j.0 bit (λ v. add_of (values m i.0.0 v xs) (values m i.0.0 v ys) (next v)) first rest in
-      subst (λ n. MeansBits m d n (λ v. add_of (values m d v (x ∷ xs)) (values m d v (y ∷ ys)) (w v))) (some_is (j.0.0, i.0.1.0 ∷ j.0.1) made j.1.1)
+      subst (λ n. MeansBits m d n (λ v. add_of (values m d v (x ∷ xs)) (values m d v (y ∷ ys)) (w v))) (some_same (j.0.0, i.0.1.0 ∷ j.0.1) made j.1.1)
       (bits_since m d d (j.0.0, i.0.1.0 ∷ j.0.1) (λ v. bit v ∷ add_of (values m i.0.0 v xs) (values m i.0.0 v ys) (next v))
       (λ v. add_of (values m d v (x ∷ xs)) (values m d v (y ∷ ys)) (w v)) (stays_same m d)
       (λ v. ap₂ (λ us ws. sum_bit (m.value d v x) (m.value d v y) (w v) ∷ add_of us ws (next_carry (m.value d v x) (m.value d v y) (w v)))

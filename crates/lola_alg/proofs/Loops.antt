@@ -3,12 +3,12 @@ use Rattle.std.proofs.Common.{◌≡◌, ℕ, ◌+◌, ◌%◌, ◌^◌, ◌<◌
 use Rattle.std.proofs.lemmas.List.{drop_more}
 use Rattle.std.proofs.lemmas.Bool.{cases_Bool}
 use Rattle.std.specs.List.{AllByRecursion}
+use Rattle.lola_bits.proofs.All.{all_append}
 use Rattle.lola_alg.specs.Gates.{turn_here}
 use Rattle.lola_alg.specs.Algebra.{Calls, Meaning, Stays, Keeps}
 use Rattle.lola_alg.specs.Steps.{Step, into, each_step, pairs_step, adder_step, carry_step, turns_step}
 use Rattle.lola_alg.specs.Means.{AreKnown}
 use Rattle.lola_alg.specs.Loops.{GoesOn, Keeping}
-use Rattle.lola_alg.proofs.Moved.{each_append}
 
 -- one more is made
 pub goes_on_more : {D X : Type 0} (whole : Option (D × List X)) (made : List X) (x : X) (rest : Option (D × List X)) →
@@ -74,7 +74,7 @@ module _ {D B : Type 0} (m : Meaning D B) where
   pub keeping_more : (before mid now : D) (made : List B) (x : B) → Keeping m before mid made → Keeps m mid now x → (items : List B) → items ≡ made ++ x ∷ [] → Keeping m before now items
   keeping_more before mid now made x k one items all = subst (Keeping m before now) (sym all) (record {
     stays = stays_then before mid now k.stays one.0;
-    known = each_append (λ b. m.knows now b ≡ true) made (x ∷ []) (stay_known mid now made one.0 k.known) (one.1, tt);
+    known = all_append (λ b. m.knows now b ≡ true) made (x ∷ []) (stay_known mid now made one.0 k.known) (one.1, tt);
   })
 
   pub stay_known_all : (before now : D) (vectors : List (List B)) → Stays m before now → AllByRecursion (AreKnown m before) vectors → AllByRecursion (AreKnown m now) vectors
@@ -83,4 +83,4 @@ module _ {D B : Type 0} (m : Meaning D B) where
 
   pub array_more : (before now : D) (made : List (List B)) (v : List B) → Stays m before now → AllByRecursion (AreKnown m before) made → AreKnown m now v → (items : List (List B)) →
       items ≡ made ++ v ∷ [] → AllByRecursion (AreKnown m now) items
-  array_more before now made v stays known one items all = subst (AllByRecursion (AreKnown m now)) (sym all) (each_append (AreKnown m now) made (v ∷ []) (stay_known_all before now made stays known) (one, tt))
+  array_more before now made v stays known one items all = subst (AllByRecursion (AreKnown m now)) (sym all) (all_append (AreKnown m now) made (v ∷ []) (stay_known_all before now made stays known) (one, tt))

@@ -2,15 +2,13 @@
 use Rattle.std.proofs.Common.{◌≡◌, ℕ, zero, suc, ◌+◌, ◌-◌, ◌*◌, ◌/◌, ◌%◌, ◌<◌, min, List, [], ◌∷◌, ◌++◌, map, length, take, drop, replicate, refl, sym, ap, ap₂, ◌∙◌, arith, append_assoc, append-nil, length-append, length-drop, length-take, take-append-drop, drop-drop, suc-mul, div-add-mod'}
 use Rattle.std.proofs.lemmas.List.{length-replicate, map-append, take-map, drop-map, drop-replicate, replicate-append-replicate, length-map, nil_from_length}
 use Rattle.std.specs.List.{AllByRecursion}
+use Rattle.lola_bits.proofs.All.{all_append, all_take, all_drop, all_same}
+use Rattle.lola_bits.proofs.Places.{map_replicate, drop_both}
 use Rattle.lola_alg.specs.Steps.{moved_up, moved_down, moved_filled, highest}
 
 -- to the right in a ring
 abbrev pub turned : {X : Type 0} → ℕ → List X → List X
 turned n xs = drop (n % length xs) xs ++ take (n % length xs) xs
-
-pub map_replicate : {X Y : Type 0} (f : X → Y) (n : ℕ) (x : X) → map f (replicate n x) ≡ replicate n (f x)
-map_replicate f zero x = refl
-map_replicate f (suc n) x = ap (λ ys. f x ∷ ys) (map_replicate f n x)
 
 -- a move and a map, one after the other
 pub map_up : {X Y : Type 0} (f : X → Y) (fill : X) (n : ℕ) (xs : List X) → map f (moved_up fill n xs) ≡ moved_up (f fill) n (map f xs)
@@ -42,40 +40,22 @@ map_turned f n xs =
 
 -- what holds of each element holds of each that was moved
 module _ {X : Type 0} (P : X → Type 0) where
-  pub each_append : (xs ys : List X) → AllByRecursion P xs → AllByRecursion P ys → AllByRecursion P (xs ++ ys)
-  each_append [] ys p q = q
-  each_append (x ∷ xs) ys p q = (p.0, each_append xs ys p.1 q)
-
-  each_take : (n : ℕ) (xs : List X) → AllByRecursion P xs → AllByRecursion P (take n xs)
-  each_take zero xs p = tt
-  each_take (suc n) [] p = tt
-  each_take (suc n) (x ∷ xs) p = (p.0, each_take n xs p.1)
-
-  each_drop : (n : ℕ) (xs : List X) → AllByRecursion P xs → AllByRecursion P (drop n xs)
-  each_drop zero xs p = p
-  each_drop (suc n) [] p = tt
-  each_drop (suc n) (x ∷ xs) p = each_drop n xs p.1
-
-  each_same : (n : ℕ) (x : X) → P x → AllByRecursion P (replicate n x)
-  each_same zero x p = tt
-  each_same (suc n) x p = (p, each_same n x p)
-
   each_highest : (xs : List X) (n : ℕ) → AllByRecursion P xs → AllByRecursion P (highest xs n)
   each_highest [] n p = tt
-  each_highest (x ∷ []) n p = each_same n x p.0
+  each_highest (x ∷ []) n p = all_same P n x p.0
   each_highest (x ∷ y ∷ more) n p = each_highest (y ∷ more) n p.1
 
   pub each_up : (fill : X) (n : ℕ) (xs : List X) → P fill → AllByRecursion P xs → AllByRecursion P (moved_up fill n xs)
-  each_up fill n xs f p = each_take (length xs) (replicate (min n (length xs)) fill ++ xs) (each_append (replicate (min n (length xs)) fill) xs (each_same (min n (length xs)) fill f) p)
+  each_up fill n xs f p = all_take P (length xs) (replicate (min n (length xs)) fill ++ xs) (all_append P (replicate (min n (length xs)) fill) xs (all_same P (min n (length xs)) fill f) p)
 
   pub each_down : (fill : X) (n : ℕ) (xs : List X) → P fill → AllByRecursion P xs → AllByRecursion P (moved_down fill n xs)
-  each_down fill n xs f p = each_append (drop n xs) (replicate (min n (length xs)) fill) (each_drop n xs p) (each_same (min n (length xs)) fill f)
+  each_down fill n xs f p = all_append P (drop n xs) (replicate (min n (length xs)) fill) (all_drop P n xs p) (all_same P (min n (length xs)) fill f)
 
   pub each_filled : (n : ℕ) (xs : List X) → AllByRecursion P xs → AllByRecursion P (moved_filled n xs)
-  each_filled n xs p = each_append (drop n xs) (highest xs (min n (length xs))) (each_drop n xs p) (each_highest xs (min n (length xs)) p)
+  each_filled n xs p = all_append P (drop n xs) (highest xs (min n (length xs))) (all_drop P n xs p) (each_highest xs (min n (length xs)) p)
 
   pub each_turned : (n : ℕ) (xs : List X) → AllByRecursion P xs → AllByRecursion P (turned n xs)
-  each_turned n xs p = each_append (drop (n % length xs) xs) (take (n % length xs) xs) (each_drop (n % length xs) xs p) (each_take (n % length xs) xs p)
+  each_turned n xs p = all_append P (drop (n % length xs) xs) (take (n % length xs) xs) (all_drop P (n % length xs) xs p) (all_take P (n % length xs) xs p)
 
 -- lengths stay
 pub up_long : {X : Type 0} (fill : X) (n : ℕ) (xs : List X) → length (moved_up fill n xs) ≡ length xs
@@ -97,12 +77,6 @@ turned_long n xs =
     let b = length-drop (n % length xs) xs in
     let d = length-take (n % length xs) xs in
     omega arith
-
--- what is dropped past the first list is dropped from the second
-drop_both : {X : Type 0} (n : ℕ) (xs ys : List X) → drop n (xs ++ ys) ≡ drop n xs ++ drop (n - length xs) ys
-drop_both zero xs ys = let e : 0 - length xs ≡ 0 = omega arith in ap (λ k. xs ++ drop k ys) (sym e)
-drop_both (suc n) [] ys = let e : suc n - 0 ≡ suc n = omega arith in ap (λ k. drop k ys) (sym e)
-drop_both (suc n) (x ∷ xs) ys = let e : suc n - suc (length xs) ≡ n - length xs = omega arith in drop_both n xs ys ∙ ap (λ k. drop n xs ++ drop k ys) (sym e)
 
 -- a move down, and another behind it
 pub down_more : {X : Type 0} (fill : X) (a b : ℕ) (xs : List X) → moved_down fill a (moved_down fill b xs) ≡ moved_down fill (b + a) xs

@@ -1,58 +1,17 @@
 -- The numbers of moved lists of truth values, and moves by each bit of a second number.
-use Rattle.std.proofs.Common.{◌≡◌, ℕ, zero, suc, ◌+◌, ◌-◌, ◌*◌, ◌/◌, ◌%◌, ◌^◌, ◌<◌, ◌≤◌, min, Bool, true, false, cond, List, [], ◌∷◌, ◌++◌, length, take, drop, replicate, refl, sym, ap, ap₂, subst, ◌∙◌, inl, inr, arith, append-nil, length-drop, shr-shr, pow-add, mul_assoc, mod-eq_of_lt, div-one, div-add-mod', append_assoc}
-use Rattle.std.proofs.Math.Nat.{mod-one, zero-mod, zero-div, mul-mod_left, add-mul-mod_self_right}
+use Rattle.std.proofs.Common.{◌≡◌, ℕ, zero, suc, ◌+◌, ◌-◌, ◌*◌, ◌/◌, ◌%◌, ◌^◌, ◌<◌, ◌≤◌, min, Bool, true, false, cond, List, [], ◌∷◌, ◌++◌, length, take, drop, replicate, refl, sym, ap, ap₂, subst, ◌∙◌, inl, inr, arith, append-nil, length-drop, pow-add, mul_assoc, mod-eq_of_lt, div-one, div-add-mod', append_assoc}
+use Rattle.std.proofs.Math.Nat.{zero-mod, mul-mod_left, add-mul-mod_self_right}
 use Rattle.std.proofs.lemmas.List.{length-replicate, take_all, replicate_more, nil_from_length}
 use Rattle.std.proofs.lemmas.Nat.{mul-mod_first, pow_pos}
 use Rattle.std.proofs.lemmas.Bool.{cases_lt}
 use Rattle.lola_bits.specs.Number as should
 use Rattle.lola_bits.specs.Number.{number}
-use Rattle.lola_alg.specs.Means.{number_of}
+use Rattle.lola_bits.proofs.BitLists.{number_append, number_same, number_take, half_more, number_drop, same_from_number, pow_more, number_below}
+use Rattle.lola_bits.specs.BitLists.{number_of}
 use Rattle.lola_alg.specs.Steps.{moved_up, moved_down, moved_filled, highest}
-use Rattle.lola_alg.proofs.Bools.{number_lt, pow_more, number_below, mod_more, pairs_of, choose_pairs}
+use Rattle.lola_alg.proofs.Bools.{pairs_of, choose_pairs}
 use Rattle.lola_alg.proofs.Moved.{turned, up_long, down_long, turned_long, down_more, turned_more, turned_none}
 use Rattle.lola_alg.proofs.ListMeans.{moves_of}
-
-number_append : (xs ys : List Bool) → number_of (xs ++ ys) ≡ number_of xs + 2 ^ length xs * number_of ys
-number_append [] ys = omega arith
-number_append (x ∷ xs) ys =
-    let h = number_append xs ys in
-    let p = ap (λ k. k * number_of ys) (pow_more (length xs)) ∙ mul_assoc 2 (2 ^ length xs) (number_of ys) in
-    omega arith
-
--- of copies of one bit
-number_same : (k : ℕ) (t : Bool) → number_of (replicate k t) ≡ number t * (2 ^ k - 1)
-number_same zero true = omega arith
-number_same zero false = omega arith
-number_same (suc k) true = let h = number_same k true in let p = pow_more k in let q = pow_pos k in omega arith
-number_same (suc k) false = let h = number_same k false in omega arith
-
-number_take : (k : ℕ) (xs : List Bool) → number_of (take k xs) ≡ number_of xs % 2 ^ k
-number_take zero xs = sym (mod-one (number_of xs))
-number_take (suc k) [] = sym (zero-mod (2 ^ suc k))
-number_take (suc k) (x ∷ xs) = ap (λ y. number x + 2 * y) (number_take k xs) ∙ sym (mod_more x (number_of xs) k)
-
--- the lowest bit goes where a number is divided by a power of 2
-half_more : (b : Bool) (y k : ℕ) → (number b + 2 * y) / 2 ^ suc k ≡ y / 2 ^ k
-half_more b y k =
-    let low = number_lt b in
-    let half : (number b + 2 * y) / 2 ^ 1 ≡ y = omega arith in
-    let e : 1 + k ≡ suc k = omega arith in
-    ap (λ j. (number b + 2 * y) / 2 ^ j) (sym e) ∙ (sym (shr-shr (number b + 2 * y) 1 k) ∙ ap (λ z. z / 2 ^ k) half)
-
-number_drop : (k : ℕ) (xs : List Bool) → number_of (drop k xs) ≡ number_of xs / 2 ^ k
-number_drop zero xs = sym (div-one (number_of xs))
-number_drop (suc k) [] = sym (zero-div (2 ^ suc k))
-number_drop (suc k) (x ∷ xs) = number_drop k xs ∙ sym (half_more x (number_of xs) k)
-
--- lists of one length with one number are one list
-same_from_number : (xs ys : List Bool) → length ys ≡ length xs → number_of xs ≡ number_of ys → xs ≡ ys
-same_from_number [] [] l e = refl
-same_from_number [] (y ∷ ys) l e = absurd (omega arith)
-same_from_number (x ∷ xs) [] l e = absurd (omega arith)
-same_from_number (true ∷ xs) (true ∷ ys) l e = ap (λ zs. true ∷ zs) (same_from_number xs ys (omega arith) (omega arith))
-same_from_number (false ∷ xs) (false ∷ ys) l e = ap (λ zs. false ∷ zs) (same_from_number xs ys (omega arith) (omega arith))
-same_from_number (true ∷ xs) (false ∷ ys) l e = absurd (omega arith)
-same_from_number (false ∷ xs) (true ∷ ys) l e = absurd (omega arith)
 
 pub up_number : (k : ℕ) (xs : List Bool) → number_of (moved_up false k xs) ≡ should.moved_up (length xs) (number_of xs) k
 up_number k xs =

@@ -2,7 +2,7 @@
 use Rattle.std.proofs.Common.{◌≡◌, ℕ, ◌+◌, ◌*◌, Bool, true, false, cond, not, ◌&&◌, List, [], ◌∷◌, length, nat_eq, nat_lt, refl, ◌∙◌, arith}
 use Rattle.std.proofs.lemmas.Bool.Decides.{nat_tests}
 use Rattle.lola_bits.specs.Number.{number}
-use Rattle.lola_alg.specs.Means.{number_of}
+use Rattle.lola_bits.specs.BitLists.{number_of}
 use Rattle.lola_alg.proofs.Bools.{differ, fold_of}
 
 -- equal so far and here

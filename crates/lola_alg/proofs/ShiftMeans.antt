@@ -3,9 +3,10 @@ use Rattle.std.proofs.Common.{◌≡◌, ℕ, ◌+◌, ◌*◌, ◌%◌, ◌^◌
 use Rattle.std.proofs.lemmas.List.{length-map}
 use Rattle.std.proofs.lemmas.Bool.{cases_Bool, cond-true, cond-false}
 use Rattle.lola_bits.specs.Number as should
+use Rattle.lola_bits.specs.BitLists.{number_of}
 use Rattle.lola_alg.specs.Algebra.{Calls, Meaning, Stays, IsAlgebra}
 use Rattle.lola_alg.specs.Steps.{into, pairs_step, choose_step, moves_step, turns_step, moved_up, moved_down, moved_filled}
-use Rattle.lola_alg.specs.Means.{AreKnown, number_of, number_at, MeansNumber}
+use Rattle.lola_alg.specs.Means.{AreKnown, number_at, MeansNumber}
 use Rattle.lola_alg.proofs.Bools.{pairs_of, choose_pairs}
 use Rattle.lola_alg.proofs.BitMeans.{into_made, has_later, stays_same}
 use Rattle.lola_alg.proofs.Loops.{stay_known}

@@ -2,12 +2,14 @@
 use Rattle.std.proofs.Common.{◌≡◌, ℕ, ◌+◌, ◌-◌, ◌*◌, ◌%◌, ◌^◌, Bool, true, false, cond, not, ◌&&◌, List, [], ◌∷◌, map, length, nat_eq, nat_lt, bit_and, bit_or, bit_xor, Option, Some, refl, sym, ap, ap₂, subst, ◌∙◌, arith}
 use Rattle.std.proofs.lemmas.List.{length-map}
 use Rattle.lola_bits.specs.Number.{number, inverted, sum, difference}
+use Rattle.lola_bits.specs.BitLists.{number_of}
+use Rattle.lola_bits.proofs.Options.{some_same}
 use Rattle.lola_alg.specs.Algebra.{Calls, Meaning, Stays, Answers, IsAlgebra}
 use Rattle.lola_alg.specs.Steps.{Step, each_step, pairs_step, not_step, both_step, either_step, differ_step, choose_step, sum_step, difference_step, equal_here, equal_step, less_here, less_step, alone, negated_alone}
-use Rattle.lola_alg.specs.Means.{AreKnown, number_of, number_at, MeansNumber}
+use Rattle.lola_alg.specs.Means.{AreKnown, number_at, MeansNumber}
 use Rattle.lola_alg.proofs.Bools.{either, differ, pairs_of, fold_of, add_of, pairs_long, not_number, and_number, or_number, xor_number, choose_pairs, add_number, add_long}
 use Rattle.lola_alg.proofs.Orders.{same_here, below_here, same_number, below_from}
-use Rattle.lola_alg.proofs.BitMeans.{into_made, some_is, Has, itself, made_has, stays_same, answers_since, negated_answers, not_answers, both_answers, either_answers, differ_answers, equal_answers, less_answers}
+use Rattle.lola_alg.proofs.BitMeans.{into_made, Has, itself, made_has, stays_same, answers_since, negated_answers, not_answers, both_answers, either_answers, differ_answers, equal_answers, less_answers}
 use Rattle.lola_alg.proofs.Loops.{stays_then, stay_known}
 use Rattle.lola_alg.proofs.ListMeans.{values, values_stay, MeansBits, bits_since, each_means, pairs_means, fold_means, carry_means, choose_gate}
 
@@ -140,7 +142,7 @@ module _ {D B : Type 0} (c : Calls D B) (m : Meaning D B) (law : IsAlgebra c m) 
       MeansNumber m d made.0 made.1 1 (λ v. number (f v))
   alone_means d bit f made ok e =
       let i = into_made bit _ made e in
-      subst (λ n. MeansNumber m d n.0 n.1 1 (λ v. number (f v))) (some_is (i.0.0, i.0.1 ∷ []) made i.1.1) (bit_number m d i.0 f (ok i.0 i.1.0))
+      subst (λ n. MeansNumber m d n.0 n.1 1 (λ v. number (f v))) (some_same (i.0.0, i.0.1 ∷ []) made i.1.1) (bit_number m d i.0 f (ok i.0 i.1.0))
 
   negated_alone_means : (d : D) (bit : Option (D × B)) (f : (ℕ → Bool) → Bool) (made : D × List B) → ((b : D × B) → bit ≡ Some b → Answers m d b f) → negated_alone c bit ≡ Some made →
       MeansNumber m d made.0 made.1 1 (λ v. number (not (f v)))
@@ -149,7 +151,7 @@ module _ {D B : Type 0} (c : Calls D B) (m : Meaning D B) (law : IsAlgebra c m) 
       let one = ok i.0 i.1.0 in
       let n = c.negated i.0.0 i.0.1 in
       let no = negated_answers c m law i.0.0 i.0.1 f (made_has m d i.0 f one) in
-      subst (λ n. MeansNumber m d n.0 n.1 1 (λ v. number (not (f v)))) (some_is (n.0, n.1 ∷ []) made i.1.1)
+      subst (λ n. MeansNumber m d n.0 n.1 1 (λ v. number (not (f v)))) (some_same (n.0, n.1 ∷ []) made i.1.1)
       (bit_number m d n (λ v. not (f v)) (answers_since m d i.0.0 n (λ v. not (f v)) (λ v. not (f v)) one.stays (λ v. refl) no))
 
   -- the bit that says whether vectors are equal, and whether one is less

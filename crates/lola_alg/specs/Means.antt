@@ -1,15 +1,11 @@
 -- What vectors of bits mean: numbers.
-use Rattle.std.specs.Prelude.{◌≡◌, ℕ, ◌+◌, ◌-◌, ◌*◌, ◌^◌, ◌≤◌, Bool, true, cond, nat_eq, List, [], ◌∷◌, map, length}
+use Rattle.std.specs.Prelude.{◌≡◌, ℕ, ◌-◌, ◌^◌, ◌≤◌, Bool, true, cond, nat_eq, List, [], ◌∷◌, map, length}
 use Rattle.std.specs.List.{AllByRecursion}
 use Rattle.lola_bits.specs.declared.op.Op.{Op}
 use Rattle.lola_bits.specs.declared.op.Op.TheVariants as op
-use Rattle.lola_bits.specs.Number.{number, inverted, operate}
+use Rattle.lola_bits.specs.Number.{inverted, operate}
+use Rattle.lola_bits.specs.BitLists.{number_of}
 use Rattle.lola_alg.specs.Algebra.{Meaning, Stays}
-
--- the number of bits, the lowest first
-abbrev pub number_of : List Bool → ℕ
-number_of [] = 0
-number_of (b ∷ bs) = number b + 2 * number_of bs
 
 abbrev pub IsWidth : ℕ → Type 0
 IsWidth width = (1 ≤ width) × (width ≤ 128)
