@@ -1,6 +1,7 @@
 -- One clock cycle of a design: which valuations satisfy its equations, and its next state. Signals are
 -- known by their paths. So far a design is its root; instances, pads and arrays add cases.
-use Rattle.std.specs.Prelude.{◌≡◌, ◌⊎◌, ℕ, ◌^◌, ◌<◌, List, [], ◌∷◌, ◌++◌, length, zero, suc, Option, Some, None}
+use Rattle.std.specs.Prelude.{◌≡◌, ℕ, ◌^◌, ◌<◌, List, [], ◌∷◌, ◌++◌, length, zero, suc, Option, Some, None}
+use Rattle.lola_bits.specs.Lists.{IsIn}
 use Rattle.lola_tree.specs.declared.named.Named.{Named}
 use Rattle.lola_tree.specs.declared.named.Ref.{Ref}
 use Rattle.lola_tree.specs.declared.named.Shape.{Shape}
@@ -12,11 +13,6 @@ use Rattle.lola_tree.specs.Tree.{StmtTree, assignment, call, pad, ModuleTree, So
 use Rattle.lola_tree.specs.Names.{Names, names_of}
 use Rattle.lola_tree.specs.Width.{vector_width, scope_of}
 use Rattle.lola_tree.specs.Value.{Path, Values, value}
-
--- an item is among those of a list
-abbrev pub IsIn : {X : Type 0} → X → List X → Type 0
-IsIn x [] = ⊥
-IsIn x (y ∷ ys) = (x ≡ y) ⊎ IsIn x ys
 
 -- the last module is the root
 abbrev pub IsRoot : SourceTree → ModuleTree → Type 0

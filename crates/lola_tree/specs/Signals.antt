@@ -1,6 +1,7 @@
 -- The signals of a design in their order, as lists of names. So far a design is its root.
-use Rattle.std.specs.Prelude.{◌≡◌, ℕ, Bool, true, false, not, ◌&&◌, List, [], ◌∷◌, ◌++◌, map, filter, bytes_eq}
-use Rattle.std.specs.List.{list_any}
+use Rattle.std.specs.Prelude.{◌≡◌, ℕ, Bool, true, false, not, ◌&&◌, List, [], ◌∷◌, ◌++◌, map, filter}
+use Rattle.lola_bits.specs.Lists.{IsIn}
+use Rattle.lola_bits.specs.Names.{is_among}
 use Rattle.lola_tree.specs.declared.named.Shape.{Shape}
 use Rattle.lola_tree.specs.declared.module.Way.{Way}
 use Rattle.lola_tree.specs.declared.module.Way.TheVariants.{Inward, Outward, Both}
@@ -10,7 +11,7 @@ use Rattle.lola_tree.specs.declared.module.LocalKind.TheVariants.{Reg, Var, Inst
 use Rattle.lola_tree.specs.declared.module.Local.{Local}
 use Rattle.lola_tree.specs.Tree.{ModuleTree, SourceTree}
 use Rattle.lola_tree.specs.Value.{Path, Values}
-use Rattle.lola_tree.specs.Cycle.{IsIn, IsRoot, IsRegister, IsInput}
+use Rattle.lola_tree.specs.Cycle.{IsRoot, IsRegister, IsInput}
 
 -- the name of the clock of a register
 abbrev pub clock_of : LocalKind → List (List ℕ)
@@ -28,9 +29,10 @@ is_inward Inward = true
 is_inward Outward = false
 is_inward Both = false
 
--- a name is among some
-abbrev pub is_among : List (List ℕ) → List ℕ → Bool
-is_among names name = list_any (λ other. bytes_eq other name) names
+abbrev pub is_outward : Way → Bool
+is_outward Inward = false
+is_outward Outward = true
+is_outward Both = false
 
 -- the IN ports but the clock, in text order
 abbrev pub input_names : ModuleTree → List (List ℕ)
