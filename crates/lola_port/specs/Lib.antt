@@ -3,3 +3,4 @@ pub mod Faults
 pub mod MemSink
 pub mod MemStore
 pub mod Outside
+pub mod RealStore

@@ -1,12 +1,13 @@
-ghost use Rattle.std.specs.Prelude.{◌≡◌, ◌≤◌, ℕ, List, length, IfOk, None};
+ghost use Rattle.std.specs.Prelude.{◌≡◌, ℕ, List, None};
 ghost use Rattle.lola_port.specs.Faults.{counts_of};
+ghost use Rattle.lola_port.specs.RealStore.{Kept};
 
 use crate::faults::Faults;
 use crate::store::{Store, StoreError};
 use std::alloc::Global;
-use std::fs;
 use std::io::{ErrorKind, Read};
 use std::rt::Files;
+use std::{fs, io};
 
 /// The files of the system, a name being a path. It tells no content.
 #[derive(Drop)]
@@ -44,7 +45,7 @@ impl<R: Files> Store for RealStore<R> {
         if self.failed_reads.reserve(alloc, name).is_err() {
             return Err(StoreError::Memory);
         }
-        match read_file(&self.files, alloc, name, limit) {
+        match kept(read_file(&self.files, alloc, name, limit), limit) {
             Ok(bytes) => Ok(bytes),
             Err(StoreError::Failed) => {
                 self.failed_reads.raise(name);
@@ -69,21 +70,20 @@ impl<R: Files> Store for RealStore<R> {
 }
 
 /// The bytes of a file. No more than one byte past the limit is read.
-fn read_file<R: Files>(
-    files: &R,
-    alloc: Global,
-    name: &str,
-    limit: u64,
-) -> Result<Vec<u8>, StoreError>
-    ensures { IfOk result (λ bytes. length bytes.items ≤ limit) }
-{
+fn read_file<R: Files>(files: &R, alloc: Global, name: &str, limit: u64) -> io::Result<Vec<u8>> {
     let mut bytes = Vec::new(alloc);
-    let read = match fs::open(files, name) {
-        Ok(file) => file.take(limit.saturating_add(1)).read_to_end(&mut bytes),
-        Err(error) => Err(error),
-    };
+    fs::open(files, name)?
+        .take(limit.saturating_add(1))
+        .read_to_end(&mut bytes)?;
+    Ok(bytes)
+}
+
+/// What came of reading, by the limit: the bytes, or why there are none.
+fn kept(read: io::Result<Vec<u8>>, limit: u64) -> Result<Vec<u8>, StoreError>
+    ensures { Kept read limit result }
+{
     match read {
-        Ok(_) if bytes.len() as u64 <= limit => Ok(bytes),
+        Ok(bytes) if bytes.len() as u64 <= limit => Ok(bytes),
         Ok(_) => Err(StoreError::TooLong),
         Err(error) if error.kind() == ErrorKind::OutOfMemory => Err(StoreError::Memory),
         Err(_) => Err(StoreError::Failed),
