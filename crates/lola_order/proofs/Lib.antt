@@ -1,0 +1,5 @@
+pub mod Lists
+pub mod Orders
+pub mod Chains
+pub mod Searching
+pub mod Solving
