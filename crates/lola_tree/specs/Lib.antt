@@ -6,3 +6,4 @@ pub mod Signals
 pub mod Tree
 pub mod Value
 pub mod Width
+pub mod design
