@@ -1,0 +1,7 @@
+pub mod Fits
+pub mod Headline
+pub mod Names
+pub mod Placed
+pub mod Registers
+pub mod Step
+pub mod Table
