@@ -3,6 +3,7 @@ use Rattle.std.proofs.Common.{◌≡◌, ℕ, ◌+◌, true, false, cond, List, 
 use Rattle.std.proofs.lemmas.Bool.{lt-ltb, le-ltb, ne_eqb}
 use Rattle.std.proofs.lemmas.List.{append_cancel_right, append-nil}
 use Rattle.std.specs.List.{list_all, prefix_len}
+use Rattle.lola_bits.proofs.Places.{same_fronts}
 use Rattle.lola_scan.specs.declared.token.Token.{Token}
 use Rattle.lola_scan.specs.declared.token.ScanError.{ScanError}
 use Rattle.lola_scan.specs.declared.token.ScanError.TheVariants.{BadByte, OpenComment}
@@ -13,15 +14,6 @@ use Rattle.lola_scan.proofs.Runs.{heads, tails, run_same, prefix_len_is}
 use Rattle.lola_scan.proofs.FirstByte.{quote, kind, first_kind, piece_not_empty, comment_opens}
 use Rattle.lola_scan.proofs.Numbers.{number_same}
 use Rattle.lola_scan.proofs.Comments.{no_comment}
-
--- two fronts of one length of one text are the same
-same_fronts : (xs ys us vs : List ℕ) → xs ++ ys ≡ us ++ vs → length xs ≡ length us → (xs ≡ us) × (ys ≡ vs)
-same_fronts [] ys [] vs s l = (refl, s)
-same_fronts [] ys (u ∷ us) vs s l = absurd (omega arith)
-same_fronts (x ∷ xs) ys [] vs s l = absurd (omega arith)
-same_fronts (x ∷ xs) ys (u ∷ us) vs s l =
-    let r = same_fronts xs ys us vs (tails s) (omega arith) in
-    (ap₂ (λ h t. h ∷ t) (heads s) r.0, r.1)
 
 -- two pieces of one text are the same, where both are comments or none is
 piece_same : (piece found : Piece) → IsPiece piece → IsPiece found → (IsComment piece → IsComment found) → (IsComment found → IsComment piece) →
