@@ -1,13 +1,15 @@
 -- From signals that wait for one another to a closed chain.
-use Rattle.std.proofs.Common.{◌≡◌, ℕ, zero, suc, ◌+◌, ◌<◌, ◌≤◌, Bool, true, List, [], ◌∷◌, ◌++◌, length, get_or, set, take, drop, refl, sym, ap, subst, ◌⊎◌, inl, inr, arith}
-use Rattle.std.specs.Prelude.{Some, None, slice_get}
+use Rattle.std.proofs.Common.{◌≡◌, ℕ, zero, suc, ◌+◌, ◌<◌, ◌≤◌, Bool, true, List, [], ◌∷◌, ◌++◌, length, get_or, set, take, drop, refl, sym, subst, ◌⊎◌, inl, inr, arith}
+use Rattle.std.specs.Prelude.{Some, slice_get}
 use Rattle.std.specs.List.{AllByRecursion}
 use Rattle.std.proofs.lemmas.Bool.{cases_eq}
 use Rattle.std.proofs.lemmas.List.{append-nil, take-append-drop, drop_more}
 use Rattle.lola_order.specs.Graph.{Graph, IsChain, IsLoop}
-use Rattle.lola_order.specs.Lists.{IsIn, AreDistinct}
+use Rattle.lola_bits.specs.Lists.{IsIn, AreDistinct}
 use Rattle.lola_order.specs.State.{IsUnmet, IsBlockedBy, IsTrail}
-use Rattle.lola_order.proofs.Lists.{in_front, in_back, in_either, in_at}
+use Rattle.lola_bits.proofs.Lists.{distinct_front, distinct_turned}
+use Rattle.lola_bits.proofs.All.{all_front, all_back, all_append}
+use Rattle.lola_bits.proofs.Places.{get_in, around, drop_found, take_found}
 use Rattle.lola_order.proofs.Searching.{unmet_before, unmet_apart, unmet_still}
 
 -- what holds on the way: the signals seen, the last first
@@ -24,7 +26,7 @@ walk_none g met unseen signal same unmet = record { trail = tt; distinct = tt; u
 pub walk_more : (g : Graph) (met unseen : List Bool) (next : List ℕ) (signal by : ℕ) (seen : List ℕ) → IsWalk g met unseen signal seen → IsUnmet unseen signal → IsBlockedBy g met next signal by →
     IsWalk g met (set unseen signal true) by (signal ∷ seen)
 walk_more g met unseen next signal by seen is unmet blocked = record {
-  trail = (record { uses = blocked.uses; equation = blocked.equation; among = in_at by blocked.uses blocked.at blocked.there }, is.trail);
+  trail = (record { uses = blocked.uses; equation = blocked.equation; among = get_in blocked.uses blocked.at by blocked.there }, is.trail);
   distinct = (is.new signal unmet, is.distinct);
   unmet = blocked.unmet;
   new = λ j un there. elim there [ inl same ↦ unmet_apart unseen signal j un same | inr early ↦ is.new j (unmet_before unseen signal j un) early ];
@@ -33,12 +35,6 @@ walk_more g met unseen next signal by seen is unmet blocked = record {
     | inr early ↦ inr (inr early)
   ];
 }
-
--- a list around one of its items
-pub around : (xs : List ℕ) (n x : ℕ) → slice_get xs n ≡ Some x → xs ≡ take n xs ++ x ∷ drop (suc n) xs
-around [] n x is = absurd (let e : None ≡ Some x = is in cc)
-around (y ∷ xs) zero x is = let e : Some y ≡ Some x = is in cc
-around (y ∷ xs) (suc n) x is = ap (λ (l : List ℕ). y ∷ l) (around xs n x is)
 
 -- chains in two parts
 chain_join : (g : Graph) (x : ℕ) (xs : List ℕ) (y : ℕ) (ys : List ℕ) (z : ℕ) → IsChain g x xs y → IsChain g y ys z → IsChain g x (xs ++ y ∷ ys) z
@@ -67,73 +63,33 @@ pub trail_round : (g : Graph) (xs : List ℕ) (z : ℕ) (zs : List ℕ) → IsTr
 trail_round g [] z zs trail = trail.0
 trail_round g (x ∷ xs) z zs trail = turned g (z ∷ []) x xs (trail_chain g z (x ∷ xs) z zs trail)
 
--- distinct items of two lists
-distinct_front : (xs ys : List ℕ) → AreDistinct (xs ++ ys) → AreDistinct xs
-distinct_front [] ys distinct = tt
-distinct_front (x ∷ xs) ys distinct = (λ is. distinct.0 (in_front x xs ys is), distinct_front xs ys distinct.1)
-
-distinct_back : (xs ys : List ℕ) → AreDistinct (xs ++ ys) → AreDistinct ys
-distinct_back [] ys distinct = distinct
-distinct_back (x ∷ xs) ys distinct = distinct_back xs ys distinct.1
-
-apart : (n : ℕ) (xs ys : List ℕ) → AreDistinct (xs ++ ys) → IsIn n xs → IsIn n ys → ⊥
-apart n [] ys distinct p q = p
-apart n (x ∷ xs) ys distinct (inl p) q = distinct.0 (subst (λ (m : ℕ). IsIn m (xs ++ ys)) p (in_back n xs ys q))
-apart n (x ∷ xs) ys distinct (inr p) q = apart n xs ys distinct.1 p q
-
-distinct_join : (xs ys : List ℕ) → AreDistinct xs → AreDistinct ys → ((n : ℕ) → IsIn n xs → IsIn n ys → ⊥) → AreDistinct (xs ++ ys)
-distinct_join [] ys p q other = q
-distinct_join (x ∷ xs) ys p q other =
-    (λ is. elim (in_either x xs ys is) [ inl front ↦ p.0 front | inr back ↦ other x (inl refl) back ], distinct_join xs ys p.1 q (λ n m. other n (inr m)))
-
-pub distinct_turned : (xs ys : List ℕ) → AreDistinct (xs ++ ys) → AreDistinct (ys ++ xs)
-distinct_turned xs ys distinct = distinct_join ys xs (distinct_back xs ys distinct) (distinct_front xs ys distinct) (λ n p q. apart n xs ys distinct q p)
-
--- what all of two lists have
-all_either : (P : ℕ → Type 0) (xs ys : List ℕ) → AllByRecursion P (xs ++ ys) → AllByRecursion P xs × AllByRecursion P ys
-all_either P [] ys all = (tt, all)
-all_either P (x ∷ xs) ys all = let q = all_either P xs ys all.1 in ((all.0, q.0), q.1)
-
-all_join : (P : ℕ → Type 0) (xs ys : List ℕ) → AllByRecursion P xs → AllByRecursion P ys → AllByRecursion P (xs ++ ys)
-all_join P [] ys p q = q
-all_join P (x ∷ xs) ys p q = (p.0, all_join P xs ys p.1 q)
-
 -- a closed chain from its earliest signal on
 loop_from : (g : Graph) (xs : List ℕ) (first : ℕ) (ys : List ℕ) → IsRound g (xs ++ first ∷ ys) → AreDistinct (xs ++ first ∷ ys) → AllByRecursion (λ (n : ℕ). first ≤ n) (xs ++ first ∷ ys) → IsLoop g ((first ∷ ys) ++ xs)
 loop_from g xs first ys round distinct least =
-    let q = all_either (λ (n : ℕ). first ≤ n) xs (first ∷ ys) least in
+    let early = all_front (λ (n : ℕ). first ≤ n) xs (first ∷ ys) least in
+    let late = all_back (λ (n : ℕ). first ≤ n) xs (first ∷ ys) least in
     record {
       first = first;
       others = ys ++ xs;
       is = refl;
       closed = turned g xs first ys round;
       distinct = distinct_turned xs (first ∷ ys) distinct;
-      earliest = all_join (λ (n : ℕ). first ≤ n) (first ∷ ys) xs q.1 q.0;
+      earliest = all_append (λ (n : ℕ). first ≤ n) (first ∷ ys) xs late early;
     }
 
 pub a_loop : (g : Graph) (names : List ℕ) (at first : ℕ) → slice_get names at ≡ Some first → IsRound g names → AreDistinct names → AllByRecursion (λ (n : ℕ). first ≤ n) names → IsLoop g (drop at names ++ take at names)
 a_loop g names at first is round distinct least =
     let e = around names at first is in
-    let d : drop at names ≡ first ∷ drop (suc at) names = dropped names at first is in
+    let d : drop at names ≡ first ∷ drop (suc at) names = drop_found names at first is in
     let r = loop_from g (take at names) first (drop (suc at) names) (subst (λ (l : List ℕ). IsRound g l) e round) (subst (λ (l : List ℕ). AreDistinct l) e distinct) (subst (λ (l : List ℕ). AllByRecursion (λ (n : ℕ). first ≤ n) l) e least) in
     subst (λ (l : List ℕ). IsLoop g (l ++ take at names)) (sym d) r
-  where
-    dropped : (xs : List ℕ) (n x : ℕ) → slice_get xs n ≡ Some x → drop n xs ≡ x ∷ drop (suc n) xs
-    dropped [] n x is = absurd (let e : None ≡ Some x = is in cc)
-    dropped (y ∷ xs) zero x is = let e : Some y ≡ Some x = is in cc
-    dropped (y ∷ xs) (suc n) x is = dropped xs n x is
 
 -- the front of a trail up to the signal that comes again
 pub cut_round : (g : Graph) (names : List ℕ) (last signal : ℕ) → slice_get names last ≡ Some signal → IsTrail g signal names → IsRound g (take (last + 1) names)
 cut_round g names last signal is trail =
     let e = around names last signal is in
     let r = trail_round g (take last names) signal (drop (suc last) names) (subst (λ (l : List ℕ). IsTrail g signal l) e trail) in
-    subst (λ (l : List ℕ). IsRound g l) (sym (taken names last signal is)) r
-  where
-    taken : (xs : List ℕ) (n x : ℕ) → slice_get xs n ≡ Some x → take (n + 1) xs ≡ take n xs ++ x ∷ []
-    taken [] n x is = absurd (let e : None ≡ Some x = is in cc)
-    taken (y ∷ xs) zero x is = let e : Some y ≡ Some x = is in cc
-    taken (y ∷ xs) (suc n) x is = let e : suc n + 1 ≡ suc (n + 1) = omega arith in rw e (ap (λ (l : List ℕ). y ∷ l) (taken xs n x is))
+    subst (λ (l : List ℕ). IsRound g l) (sym (let more : last + 1 ≡ suc last = omega arith in rw more (take_found names last signal is))) r
 
 pub cut_distinct : (names : List ℕ) (n : ℕ) → AreDistinct names → AreDistinct (take n names)
 cut_distinct names n distinct = distinct_front (take n names) (drop n names) (subst (λ (l : List ℕ). AreDistinct l) (sym (take-append-drop n names)) distinct)

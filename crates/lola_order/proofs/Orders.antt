@@ -4,8 +4,8 @@ use Rattle.std.specs.Prelude.{cond, nat_eq}
 use Rattle.std.proofs.lemmas.Bool.{cases_Bool, cond-true, cond-false, false≢true, eqb-true}
 use Rattle.std.proofs.lemmas.List.{append-nil}
 use Rattle.lola_order.specs.Graph.{Graph, IsWanted, IsUse, IsReady, IsFirstReady, ArePlaced, IsOrder, IsChain, HasLoop}
-use Rattle.lola_order.specs.Lists.{IsIn}
-use Rattle.lola_order.proofs.Lists.{but_last}
+use Rattle.lola_bits.specs.Lists.{IsIn}
+use Rattle.lola_bits.proofs.Lists.{but_last}
 
 -- one more is placed
 pub placed_more : (g : Graph) (before xs : List ℕ) (i : ℕ) → ArePlaced g before xs → IsFirstReady g (before ++ xs) i → ArePlaced g before (xs ++ i ∷ [])

@@ -8,9 +8,11 @@ use Rattle.std.proofs.lemmas.List.{take_all, length-map}
 use Rattle.lola_order.specs.declared.ready.Ready.{Ready}
 use Rattle.lola_order.specs.declared.waiting.Waiting.{Waiting}
 use Rattle.lola_order.specs.Graph.{Graph, Uses, IsWanted, IsUse, IsReady, IsFirstReady, IsOrder, IsLoop, HasLoop}
-use Rattle.lola_order.specs.Lists.{IsIn}
+use Rattle.lola_bits.specs.Lists.{IsIn}
 use Rattle.lola_order.specs.State.{Has, Waits, IsWaiting, IsReadied, IsUnmet, unmet_count, IsBlockedBy, UsesMet, IsState}
-use Rattle.lola_order.proofs.Lists.{in_front, but_last, in_last, in_at, in_take_more, get_set_same, get_set_other}
+use Rattle.lola_bits.proofs.Lists.{in_front, but_last, in_last}
+use Rattle.lola_bits.proofs.Places.{get_in, get_set_same, get_set_other}
+use Rattle.lola_order.proofs.Lists.{in_take_more}
 use Rattle.lola_order.proofs.Orders.{placed_more}
 
 -- a look at one more use
@@ -200,7 +202,7 @@ module _ (g : Graph) (met : List Bool) (next : List ℕ) (w : Waiting) (r s : Re
       | inl ready ↦ ready
       | inr (inl blocked) ↦
           let b = blocked.blocked in
-          let u : IsUse g blocked.by j = record { uses = b.uses; equation = b.equation; among = in_at blocked.by b.uses b.at b.there } in
+          let u : IsUse g blocked.by j = record { uses = b.uses; equation = b.equation; among = get_in b.uses b.at blocked.by b.there } in
           absurd (is.marked.new blocked.by b.unmet (ready.met blocked.by u (is.marked.wanted blocked.by b.unmet)))
       | inr (inr none) ↦ absurd none
     ]

@@ -4,9 +4,9 @@ use Rattle.std.specs.Prelude.{Option, Some, None, slice_get, cond, nat_eq}
 use Rattle.std.proofs.lemmas.Bool.{cond-true, cond-false, eqb-true, false_from_ne_true}
 use Rattle.std.proofs.lemmas.List.{append-nil}
 use Rattle.lola_order.specs.Graph.{Graph, IsWanted, ArePlaced, IsOrder}
-use Rattle.lola_order.specs.Lists.{IsIn}
+use Rattle.lola_bits.specs.Lists.{IsIn}
 use Rattle.lola_order.specs.Solutions.{HangsOnUses, IsSolution}
-use Rattle.lola_order.proofs.Lists.{in_front, but_last, in_last}
+use Rattle.lola_bits.proofs.Lists.{in_front, but_last, in_last}
 
 -- a signal is wanted or not
 is_wanted : (g : Graph) (i : ℕ) → IsWanted g i ⊎ (IsWanted g i → ⊥)

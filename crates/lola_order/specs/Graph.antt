@@ -2,7 +2,7 @@
 -- equation, or whose equation no cycle depends on, is given.
 use Rattle.std.specs.Prelude.{◌≡◌, ℕ, ◌≤◌, List, [], ◌∷◌, ◌++◌, Option, Some, slice_get}
 use Rattle.std.specs.List.{AllByRecursion}
-use Rattle.lola_order.specs.Lists.{IsIn, AreDistinct}
+use Rattle.lola_bits.specs.Lists.{IsIn, AreDistinct}
 use Rattle.lola_order.specs.declared.ordering.Ordered.{Ordered}
 use Rattle.lola_order.specs.declared.ordering.Ordered.TheVariants.{Order, Loop}
 

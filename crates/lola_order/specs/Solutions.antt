@@ -1,7 +1,7 @@
 -- Values that satisfy equations, whatever values are: what isn't wanted has a value that is there before.
 use Rattle.std.specs.Prelude.{◌≡◌, ℕ, List}
 use Rattle.lola_order.specs.Graph.{Graph, Uses, IsWanted}
-use Rattle.lola_order.specs.Lists.{IsIn}
+use Rattle.lola_bits.specs.Lists.{IsIn}
 
 -- what an equation gives for some values hangs on those alone that it uses
 abbrev pub HangsOnUses : {X : Type 0} → Graph → (ℕ → (ℕ → X) → X) → Type 0

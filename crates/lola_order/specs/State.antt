@@ -7,7 +7,7 @@ use Rattle.lola_order.specs.declared.ready.Ready.{Ready}
 use Rattle.lola_order.specs.declared.waiting.Waiting.{Waiting}
 use Rattle.lola_order.specs.declared.search.Search.{Search}
 use Rattle.lola_order.specs.Graph.{Graph, Uses, IsWanted, IsUse, ArePlaced}
-use Rattle.lola_order.specs.Lists.{IsIn}
+use Rattle.lola_bits.specs.Lists.{IsIn}
 
 -- a number is among those that are ready
 abbrev pub Has : Ready → ℕ → Type 0

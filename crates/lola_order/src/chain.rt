@@ -1,7 +1,7 @@
 ghost use Rattle.std.specs.Prelude.{◌≡◌, ◌≤◌, ◌<◌, ℕ, Bool, List, [], ◌∷◌, ◌++◌, take, drop, length, Some, slice_get, reverse, IfOk};
 ghost use Rattle.std.specs.List.{AllByRecursion};
 ghost use Rattle.lola_order.specs.Graph.{IsLoop};
-ghost use Rattle.lola_order.specs.Lists.{IsIn, AreDistinct};
+ghost use Rattle.lola_bits.specs.Lists.{IsIn, AreDistinct};
 ghost use Rattle.lola_order.specs.State.{IsUnmet, IsBlockedBy, IsTrail};
 
 use crate::search::is_unmet;

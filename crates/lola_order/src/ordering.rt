@@ -1,7 +1,7 @@
 ghost use Rattle.std.specs.Prelude.{◌≡◌, ◌<◌, ◌^◌, ℕ, List, Some, Option, length, map, slice_get, IfOk, MatchOption};
 ghost use Rattle.std.specs.Option.{is_none};
 ghost use Rattle.lola_order.specs.Graph.{Graph, IsOrder, IsLoop, HasLoop, Answers};
-ghost use Rattle.lola_order.specs.Lists.{IsIn};
+ghost use Rattle.lola_bits.specs.Lists.{IsIn};
 ghost use Rattle.lola_order.specs.State.{IsUnmet, IsBeginning};
 
 use crate::chain::chain;

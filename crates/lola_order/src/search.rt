@@ -1,6 +1,6 @@
 ghost use Rattle.std.specs.Prelude.{◌≡◌, ◌≤◌, ◌<◌, ℕ, List, [], ◌∷◌, take, length, true, Some, None, IsTrue, ◌↔◌, slice_get, IfOk, OnOk, MatchOption, slice_set};
 ghost use Rattle.std.specs.Bool.{OnTrue, OnFalse};
-ghost use Rattle.lola_order.specs.Lists.{IsIn};
+ghost use Rattle.lola_bits.specs.Lists.{IsIn};
 ghost use Rattle.lola_order.specs.State.{IsUnmet, unmet_count, Has, IsWaiting, IsReadied, IsSearch};
 
 use crate::ready::Ready;

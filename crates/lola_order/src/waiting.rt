@@ -1,5 +1,5 @@
 ghost use Rattle.std.specs.Prelude.{◌≡◌, ◌≢◌, ◌<◌, ℕ, length, IfOk, OnOk};
-ghost use Rattle.lola_order.specs.Lists.{IsIn};
+ghost use Rattle.lola_bits.specs.Lists.{IsIn};
 ghost use Rattle.lola_order.specs.State.{Waits, IsWaiting};
 
 use lola_bits::{Memory, Seq};

@@ -7,7 +7,7 @@ use Rattle.lola_tree.specs.declared.named.Ref.{Ref}
 use Rattle.lola_tree.specs.Tree.{Tree, number, whole, bit, slice, index, concat, negation, binary, choice, Parts, no_part, one_part, SourceTree}
 use Rattle.lola_tree.specs.Width.{Scope, scope_of}
 use Rattle.lola_tree.specs.Value.{Path}
-use Rattle.lola_tree.specs.Cycle.{IsIn}
+use Rattle.lola_bits.specs.Lists.{IsIn, AreDistinct}
 use Rattle.lola_tree.specs.design.Signals.{signal_paths}
 use Rattle.lola_tree.specs.design.Equations.{Right, expression, copied, driven, Equation, equations}
 
@@ -94,11 +94,6 @@ pub record HasLoop (S : SourceTree) : Type 0 where
   pub first : Path
   pub others : List Path
   pub closed : IsChain S first others first
-
--- no signal comes twice
-abbrev pub AreDistinct : List Path → Type 0
-AreDistinct [] = Unit {0}
-AreDistinct (x ∷ xs) = (IsIn x xs → ⊥) × AreDistinct xs
 
 -- a signal is the earliest of some
 pub record IsEarliest (S : SourceTree) (first : Path) (names : List Path) : Type 0 where

@@ -6,7 +6,7 @@ use Rattle.lola_tree.specs.declared.module.LocalKind.{LocalKind}
 use Rattle.lola_tree.specs.declared.module.LocalKind.TheVariants.{Reg, Var, Inst}
 use Rattle.lola_tree.specs.declared.module.Local.{Local}
 use Rattle.lola_tree.specs.Tree.{ActualTree, StmtTree, ModuleTree}
-use Rattle.lola_tree.specs.Signals.{is_among}
+use Rattle.lola_bits.specs.Names.{is_among}
 use Rattle.lola_tree.specs.design.Calls.{args_of, bare_name}
 
 -- the names that stand as arguments of clock ports, where it is known which ports are clocks

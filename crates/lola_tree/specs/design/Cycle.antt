@@ -6,7 +6,8 @@ use Rattle.lola_tree.specs.Tree.{Tree, ActualTree, ModuleTree, SourceTree}
 use Rattle.lola_tree.specs.Names.{Names}
 use Rattle.lola_tree.specs.Width.{vector_width, element_width, scope_of}
 use Rattle.lola_tree.specs.Value.{Path, Values, value}
-use Rattle.lola_tree.specs.Cycle.{IsIn, names_at, FitsIn, input_at}
+use Rattle.lola_bits.specs.Lists.{IsIn}
+use Rattle.lola_tree.specs.Cycle.{names_at, FitsIn, input_at}
 use Rattle.lola_tree.specs.design.Signals.{Kind, clock, input, pad, register, Signal, signals, elements}
 use Rattle.lola_tree.specs.design.Equations.{Holds, Update, updates}
 

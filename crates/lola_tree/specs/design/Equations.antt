@@ -6,8 +6,10 @@ use Rattle.lola_tree.specs.declared.module.Port.{Port}
 use Rattle.lola_tree.specs.Tree.{Tree, ActualTree, StmtTree, assignment, call, pad, ModuleTree, SourceTree}
 use Rattle.lola_tree.specs.Width.{scope_of}
 use Rattle.lola_tree.specs.Value.{Path, Values, value}
-use Rattle.lola_tree.specs.Cycle.{IsIn, names_at}
-use Rattle.lola_tree.specs.Signals.{is_among, register_names}
+use Rattle.lola_bits.specs.Lists.{IsIn}
+use Rattle.lola_tree.specs.Cycle.{names_at}
+use Rattle.lola_bits.specs.Names.{is_among}
+use Rattle.lola_tree.specs.Signals.{register_names}
 use Rattle.lola_tree.specs.design.Calls.{bare_path}
 use Rattle.lola_tree.specs.design.Places.{pad_of, Caller, Place, places}
 

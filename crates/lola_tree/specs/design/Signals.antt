@@ -13,7 +13,7 @@ use Rattle.lola_tree.specs.declared.module.Local.{Local}
 use Rattle.lola_tree.specs.Tree.{ModuleTree, SourceTree}
 use Rattle.lola_tree.specs.Names.{Names, names_of, count_number}
 use Rattle.lola_tree.specs.Value.{Path, or_zero}
-use Rattle.lola_tree.specs.Signals.{is_among}
+use Rattle.lola_bits.specs.Names.{is_among}
 use Rattle.lola_tree.specs.design.Clocks.{clocks_in, clock_ports}
 
 -- what a signal is: the clock of the root, another IN port of the root, an INOUT port of the root, a register,
@@ -46,8 +46,15 @@ abbrev pub root_ports : Names → List (List ℕ) → List Port → List Signal
 root_ports names clocks ports = map (root_port names clocks) ports
 
 -- the ports of an instance at a path, but its clock
+abbrev pub shown_port : Way → Bool → Signal → List Signal
+shown_port Inward true x = []
+shown_port Inward false x = x ∷ []
+shown_port Outward is_clock x = x ∷ []
+shown_port Both is_clock x = x ∷ []
+
 abbrev pub instance_port : Names → List (List ℕ) → Path → Port → List Signal
-instance_port names clocks q p = if is_among clocks p.name then [] else record { path = q ++ p.name ∷ []; kind = wire; names = names; type = p.shape } ∷ []
+instance_port names clocks q p =
+    shown_port p.way (is_among clocks p.name) (record { path = q ++ p.name ∷ []; kind = wire; names = names; type = p.shape })
 
 abbrev pub instance_ports : Names → List (List ℕ) → Path → List Port → List Signal
 instance_ports names clocks q ports = flat_map (instance_port names clocks q) ports

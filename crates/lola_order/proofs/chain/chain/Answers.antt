@@ -3,7 +3,7 @@ use Rattle.std.specs.Prelude.{slice_get}
 use Rattle.std.specs.List.{AllByRecursion}
 use Rattle.std.proofs.lemmas.Option.{slice_get-get_or}
 use Rattle.lola_order.specs.Graph.{Graph, IsLoop}
-use Rattle.lola_order.specs.Lists.{IsIn, AreDistinct}
+use Rattle.lola_bits.specs.Lists.{IsIn, AreDistinct}
 use Rattle.lola_order.specs.State.{IsTrail}
 use Rattle.lola_order.proofs.Chains.{IsRound, a_loop, cut_round, cut_distinct}
 use Rattle.lola_order.proofs.chain.chain.Goals as goal

@@ -1,5 +1,5 @@
 use Rattle.std.proofs.Common.{drop}
-use Rattle.lola_order.specs.Lists.{IsIn}
+use Rattle.lola_bits.specs.Lists.{IsIn}
 use Rattle.lola_order.proofs.chain.place_of.Given as goal
 
 abbrev pub invariant-loop-at : goal.invariant-loop-at

@@ -1,5 +1,5 @@
 use Rattle.std.proofs.Common.{ℕ, ◌<◌}
-use Rattle.lola_order.specs.Lists.{IsIn}
+use Rattle.lola_bits.specs.Lists.{IsIn}
 use Rattle.lola_order.proofs.ordering.numbers.Given as goal
 
 abbrev pub invariant-loop-number : goal.invariant-loop-number

@@ -1,6 +1,6 @@
 use Rattle.std.proofs.Common.{ℕ, Bool, List, [], sym, subst}
 use Rattle.lola_order.specs.Graph.{IsOrder}
-use Rattle.lola_order.specs.Lists.{IsIn}
+use Rattle.lola_bits.specs.Lists.{IsIn}
 use Rattle.lola_order.specs.State.{IsUnmet, IsBlockedBy}
 use Rattle.lola_order.proofs.Searching.{begun, ordered, all_blocked}
 use Rattle.lola_order.proofs.ordering.order.Goals as goal

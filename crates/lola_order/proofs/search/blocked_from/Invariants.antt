@@ -1,5 +1,5 @@
 use Rattle.std.proofs.Common.{ℕ, take}
-use Rattle.lola_order.specs.Lists.{IsIn}
+use Rattle.lola_bits.specs.Lists.{IsIn}
 use Rattle.lola_order.specs.State.{IsUnmet}
 use Rattle.lola_order.proofs.search.blocked_from.Given as goal
 

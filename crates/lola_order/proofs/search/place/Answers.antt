@@ -1,6 +1,6 @@
 use Rattle.std.proofs.Common.{ℕ, ◌<◌, Bool, true, false, List, length, set, sym, subst, arith}
 use Rattle.std.proofs.lemmas.Option.{slice_get_within}
-use Rattle.lola_order.specs.Lists.{IsIn}
+use Rattle.lola_bits.specs.Lists.{IsIn}
 use Rattle.lola_order.specs.State.{IsState, unmet_count}
 use Rattle.lola_order.proofs.Searching.{idle, placed_least, fewer}
 use Rattle.lola_order.proofs.search.place.Goals as goal

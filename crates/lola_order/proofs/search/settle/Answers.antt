@@ -2,7 +2,7 @@ use Rattle.std.proofs.Common.{◌≡◌, ℕ, Bool, List, ◌∷◌, length, tak
 use Rattle.std.specs.Prelude.{slice_get}
 use Rattle.std.proofs.lemmas.Option.{slice_get_read}
 use Rattle.lola_order.specs.Graph.{Uses, Graph}
-use Rattle.lola_order.specs.Lists.{IsIn}
+use Rattle.lola_bits.specs.Lists.{IsIn}
 use Rattle.lola_order.specs.State.{IsUnmet, IsSearch}
 use Rattle.lola_order.specs.declared.search.Search.{Search}
 use Rattle.lola_order.proofs.Searching.{settled, within_waiting, within_graph, not_given}
