@@ -16,7 +16,7 @@ use Rattle.tab_tree.specs.declared.value.StateValue.TheVariants.{One, Many}
 use Rattle.tab_tree.specs.declared.value.Answer.{Answer}
 use Rattle.tab_tree.specs.declared.value.Access.TheVariants.{Idle, Store, Fetch}
 use Rattle.tab_tree.specs.Table.{SetTree, idle_row, take_row, store_row, fetch_row, PhaseTree, InsideTree, TableTree}
-use Rattle.tab_tree.specs.Names.{vector, vector_form, scope_by}
+use Rattle.tab_tree.specs.Names.{vector, vector_form, look, scope_by}
 use Rattle.tab_tree.specs.Registers.{registers_of}
 use Rattle.tab_tree.specs.Step.{next_arch, next_word, instruction_rows, cycles_of, fits}
 use Rattle.tab_tree.specs.Headline.{shown, shown_word}
@@ -129,7 +129,7 @@ turns_shaped = (
 turns_widths : AllByRecursion (λ (e : Placed). HasWidth e.wanted (width (scope_by e.names) e.expr)) (placed turns_design turns_table)
 turns_widths = (refl, (refl, (refl, (refl, (refl, (refl, (refl, (refl, (refl, (refl, tt))))))))))
 
-turns_known : AllByRecursion (λ (e : Placed). Reads (λ r. IsAVector (e.names r)) (λ r. IsAnArray (e.names r)) e.expr) (placed turns_design turns_table)
+turns_known : AllByRecursion (λ (e : Placed). Reads (λ r. IsAVector (look e.names r)) (λ r. IsAnArray (look e.names r)) e.expr) (placed turns_design turns_table)
 turns_known = (tt, (tt, ((tt, tt), (tt, (tt, (tt, (tt, (((tt, tt), (tt, (tt, tt))), (((tt, tt), (tt, tt)), (tt, tt))))))))))
 
 -- an access: STORE q DATA q, then q := ~q

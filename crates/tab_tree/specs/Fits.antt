@@ -13,7 +13,7 @@ use Rattle.lola_tree.specs.Cycle.{IsIn, IsRoot, IsInput}
 use Rattle.tab_tree.specs.declared.table.Active.{Active}
 use Rattle.tab_tree.specs.declared.table.BusRoles.{BusRoles}
 use Rattle.tab_tree.specs.Table.{RolesTree, StateTree, LetTree, SetTree, TurnsTree, AccessTree, idle_row, take_row, load_row, store_row, fetch_row, PhaseTree, InsideTree, ClassTree, TableTree}
-use Rattle.tab_tree.specs.Names.{Form, vector_form, array_form, Names, scope_by, are_digits, is_empty, shape_form, state_form}
+use Rattle.tab_tree.specs.Names.{Form, vector_form, array_form, Names, look, are_digits, is_empty, scope_by, shape_form, state_form}
 use Rattle.tab_tree.specs.Registers.{registers_of, port_width}
 use Rattle.tab_tree.specs.Step.{fits}
 use Rattle.tab_tree.specs.Placed.{Placed, word_width, placed}
@@ -92,7 +92,7 @@ abbrev mutual
 
 -- a name is in scope
 abbrev pub IsKnown : Names Form → Ref → Type 0
-IsKnown names r = names r ≢ None
+IsKnown names r = look names r ≢ None
 
 abbrev pub IsAnArray : Option Form → Type 0
 IsAnArray None = ⊥
@@ -149,7 +149,7 @@ TurnsAreVectors None = Unit {0}
 TurnsAreVectors (Some t) = IsAVector (Some (shape_form t.shape))
 
 pub record IsOfKinds (S : SourceTree) (T : TableTree) : Type 0 where
-  pub read : AllByRecursion (λ (e : Placed). Reads (λ r. IsAVector (e.names r)) (λ r. IsAnArray (e.names r)) e.expr) (placed S T)
+  pub read : AllByRecursion (λ (e : Placed). Reads (λ r. IsAVector (look e.names r)) (λ r. IsAnArray (look e.names r)) e.expr) (placed S T)
   pub arrays : AllByRecursion (λ (row : StateTree). ShowsArray S row.shape row.shown) T.states
   pub starts : AllByRecursion (λ (row : SetTree). IsAVector (state_form T.states row.name) × (row.place ≡ None)) T.starts
   pub sets : EachSet (SuitsState T) T

@@ -18,19 +18,19 @@ use Rattle.tab_tree.specs.declared.value.Answer.{Answer}
 use Rattle.tab_tree.specs.declared.value.Access.{Access}
 use Rattle.tab_tree.specs.declared.value.Access.TheVariants.{Idle, Load, Store, Fetch}
 use Rattle.tab_tree.specs.Table.{active_value, StateTree, SetTree, InsideTree, ClassTree, TableTree}
-use Rattle.tab_tree.specs.Names.{vector, Names, number_at, table_number, table_value, fixed}
+use Rattle.tab_tree.specs.Names.{vector, Names, no_names, look, number_at, table_number, table_value, fixed}
 use Rattle.tab_tree.specs.Registers.{port_width, elements, source_names}
-use Rattle.tab_tree.specs.Step.{Arch, by_row, state_value, no_names, IsInside, Boundary, Row}
+use Rattle.tab_tree.specs.Step.{Arch, by_row, state_value, IsInside, Boundary, Row}
 
 -- the number n of what a bare name stands for
 abbrev pub element_shown : Tree → Names StateValue → ℕ → ℕ
-element_shown (whole of) names n = number_at (names of) n
+element_shown (whole of) names n = number_at (look names of) n
 element_shown other names n = 0
 
 -- the value of a state in a state of the design: that of its expression, or the elements of the
 -- register array that it names
 abbrev pub shown_by : Shape → Tree → Names StateValue → StateValue
-shown_by (Vector width) e names = One (vector (or_zero (fixed width)) (table_number names e))
+shown_by (Vector width) e names = One (table_value names e)
 shown_by (Array count width) e names = Many (elements (or_zero (fixed count)) 0 (or_zero (fixed width)) (element_shown e names))
 
 abbrev pub row_shown : SourceTree → StateTree → Values → StateValue

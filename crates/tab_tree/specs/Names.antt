@@ -26,98 +26,22 @@ pub data Form : Type 0 where
   vector_form : (width : ℕ) → Form
   array_form : (count width : ℕ) → Form
 
--- what names stand for, of values or of their forms
-abbrev pub Names : Type 0 → Type 0
-Names X = Ref → Option X
+-- what names stand for, of values or of their forms: the word `i`, the count `k`, the loaded words `dj`
+-- and the accumulators `tj` by the number of their phase, states, fields and LETs, and `@` names
+pub record Names (X : Type 0) : Type 0 where
+  pub word : Option X
+  pub count : Option X
+  pub loaded : ℕ → Option X
+  pub turned : ℕ → Option X
+  pub named : List ℕ → Option X
+  pub register : List (List ℕ) → Option X
 
--- the width of the first of some vectors
-abbrev pub first_width : List Bits → ℕ
-first_width [] = 0
-first_width (x ∷ xs) = x.width
+-- no name is in scope
+abbrev pub nothing : {X Y : Type 0} → X → Option Y
+nothing x = None
 
-abbrev pub form_of : StateValue → Form
-form_of (One x) = vector_form x.width
-form_of (Many xs) = array_form (length xs) (first_width xs)
-
-abbrev pub mapped : {X Y : Type 0} → (X → Y) → Option X → Option Y
-mapped f None = None
-mapped f (Some x) = Some (f x)
-
-abbrev pub forms_of : Names StateValue → Names Form
-forms_of names r = mapped form_of (names r)
-
--- the width of a vector, and of an array that of an element and that of a place
-abbrev pub form_width : Option Form → Option ℕ
-form_width None = None
-form_width (Some (vector_form width)) = Some width
-form_width (Some (array_form count width)) = None
-
-abbrev pub form_element : Option Form → Option ℕ
-form_element None = None
-form_element (Some (vector_form width)) = None
-form_element (Some (array_form count width)) = Some width
-
-abbrev pub form_place : Option Form → Option ℕ
-form_place None = None
-form_place (Some (vector_form width)) = None
-form_place (Some (array_form count width)) = place_width count
-
--- counts in tables are numbers
-abbrev pub fixed : Count → Option ℕ
-fixed (Fixed number at) = Some number
-fixed (Const name) = None
-
--- where an expression stands, by the forms of its names; tables have no constants
-abbrev pub scope_by : Names Form → Scope
-scope_by forms = record {
-  count = fixed;
-  number = λ r. None;
-  width = λ r. form_width (forms r);
-  element = λ r. form_element (forms r);
-  place = λ r. form_place (forms r);
-}
-
--- a number of a list of vectors, or 0 behind its end
-abbrev pub nth_number : List Bits → ℕ → ℕ
-nth_number [] n = 0
-nth_number (x ∷ xs) zero = x.value
-nth_number (x ∷ xs) (suc n) = nth_number xs n
-
--- the numbers of a value: a vector is element 0
-abbrev pub number_at : Option StateValue → ℕ → ℕ
-number_at None n = 0
-number_at (Some (One x)) n = x.value
-number_at (Some (Many xs)) n = nth_number xs n
-
--- the width and the number of an expression
-abbrev pub table_width : Names StateValue → Tree → Option ℕ
-table_width names e = width (scope_by (forms_of names)) e
-
-abbrev pub table_number : Names StateValue → Tree → ℕ
-table_number names e = value (scope_by (forms_of names)) e (λ r n. number_at (names r) n)
-
--- its value as a vector
-abbrev pub table_value : Names StateValue → Tree → Bits
-table_value names e = vector (or_zero (table_width names e)) (table_number names e)
-
--- names with one more: a bare name stands for what is given here
-abbrev pub with_name : {X : Type 0} → Names X → List ℕ → Option X → Names X
-with_name names name x r = if r.source then names r else if bytes_eq name (ref_name r) then x else names r
-
--- a field or a LET stands for the value of its expression; where that has no width, since a name in it
--- isn't in scope, it isn't either
-abbrev pub vector_of : Option ℕ → ℕ → Option StateValue
-vector_of None number = None
-vector_of (Some width) number = Some (One (vector width number))
-
-abbrev pub with_rows : List LetTree → Names StateValue → Names StateValue
-with_rows [] names = names
-with_rows (row ∷ rows) names = with_rows rows (with_name names row.name (vector_of (table_width names row.value) (table_number names row.value)))
-
--- the same of forms alone
-abbrev pub with_forms : List LetTree → Names Form → Names Form
-with_forms [] forms = forms
-with_forms (row ∷ rows) forms = with_forms rows (with_name forms row.name (mapped vector_form (width (scope_by forms) row.value)))
+abbrev pub no_names : {X : Type 0} → Names X
+no_names = record { word = None; count = None; loaded = nothing; turned = nothing; named = nothing; register = nothing }
 
 -- decimal digits, and the number that they spell behind another
 abbrev pub is_digit : ℕ → Bool
@@ -149,28 +73,115 @@ abbrev pub or_else : {X Y : Type 0} → Option X → (X → Y) → Y → Y
 or_else None f y = y
 or_else (Some x) f y = f x
 
--- what the names of a class stand for, but for its fields and LETs: the word `i`, the count `k`, the
--- loaded words `d` (byte 100) and the accumulators `t` (byte 116) by the number of their phase, the
--- states, and `@` names
-pub record Meanings (X : Type 0) : Type 0 where
-  pub word : Option X
-  pub count : Option X
-  pub loaded : ℕ → Option X
-  pub turned : ℕ → Option X
-  pub state : List ℕ → Option X
-  pub register : List (List ℕ) → Option X
+-- what a bare name stands for, and any: `d` is byte 100, and `t` 116
+abbrev pub bare_name : {X : Type 0} → Names X → List ℕ → Option X
+bare_name names name =
+    if bytes_eq name (codes "i") then names.word else if bytes_eq name (codes "k") then names.count else
+    or_else (numbered 100 name) names.loaded (or_else (numbered 116 name) names.turned (names.named name))
 
-abbrev pub bare_name : {X : Type 0} → Meanings X → List ℕ → Option X
-bare_name m name =
-    if bytes_eq name (codes "i") then m.word else if bytes_eq name (codes "k") then m.count else
-    or_else (numbered 100 name) m.loaded (or_else (numbered 116 name) m.turned (m.state name))
+abbrev pub look : {X : Type 0} → Names X → Ref → Option X
+look names r = if r.source then names.register r.path else bare_name names (ref_name r)
 
-abbrev pub names_by : {X : Type 0} → Meanings X → Names X
-names_by m r = if r.source then m.register r.path else bare_name m (ref_name r)
+-- the width of the first of some vectors
+abbrev pub first_width : List Bits → ℕ
+first_width [] = 0
+first_width (x ∷ xs) = x.width
 
--- no name is in scope
-abbrev pub nothing : {X Y : Type 0} → X → Option Y
-nothing x = None
+abbrev pub form_of : StateValue → Form
+form_of (One x) = vector_form x.width
+form_of (Many xs) = array_form (length xs) (first_width xs)
+
+abbrev pub mapped : {X Y : Type 0} → (X → Y) → Option X → Option Y
+mapped f None = None
+mapped f (Some x) = Some (f x)
+
+abbrev pub forms_of : Names StateValue → Names Form
+forms_of names = record {
+  word = mapped form_of names.word;
+  count = mapped form_of names.count;
+  loaded = λ j. mapped form_of (names.loaded j);
+  turned = λ j. mapped form_of (names.turned j);
+  named = λ name. mapped form_of (names.named name);
+  register = λ path. mapped form_of (names.register path);
+}
+
+-- the width of a vector, and of an array that of an element and that of a place
+abbrev pub form_width : Option Form → Option ℕ
+form_width None = None
+form_width (Some (vector_form width)) = Some width
+form_width (Some (array_form count width)) = None
+
+abbrev pub form_element : Option Form → Option ℕ
+form_element None = None
+form_element (Some (vector_form width)) = None
+form_element (Some (array_form count width)) = Some width
+
+abbrev pub form_place : Option Form → Option ℕ
+form_place None = None
+form_place (Some (vector_form width)) = None
+form_place (Some (array_form count width)) = place_width count
+
+-- counts in tables are numbers
+abbrev pub fixed : Count → Option ℕ
+fixed (Fixed number at) = Some number
+fixed (Const name) = None
+
+-- where an expression stands, by the forms of its names; tables have no constants
+abbrev pub scope_by : Names Form → Scope
+scope_by forms = record {
+  count = fixed;
+  number = λ r. None;
+  width = λ r. form_width (look forms r);
+  element = λ r. form_element (look forms r);
+  place = λ r. form_place (look forms r);
+}
+
+-- a number of a list of vectors, or 0 behind its end
+abbrev pub nth_number : List Bits → ℕ → ℕ
+nth_number [] n = 0
+nth_number (x ∷ xs) zero = x.value
+nth_number (x ∷ xs) (suc n) = nth_number xs n
+
+-- the numbers of a value: a vector is element 0
+abbrev pub number_at : Option StateValue → ℕ → ℕ
+number_at None n = 0
+number_at (Some (One x)) n = x.value
+number_at (Some (Many xs)) n = nth_number xs n
+
+-- the vector that an expression stands for: none where it has no width, since a name in it isn't in
+-- scope or a rule of widths is broken
+abbrev pub vector_by : Option ℕ → ℕ → Option Bits
+vector_by None number = None
+vector_by (Some width) number = Some (vector width number)
+
+abbrev pub table_vector : Names StateValue → Tree → Option Bits
+table_vector names e = vector_by (width (scope_by (forms_of names)) e) (value (scope_by (forms_of names)) e (λ r n. number_at (look names r) n))
+
+-- its value, which without a width is the vector of no bits, and its number
+abbrev pub or_empty : Option Bits → Bits
+or_empty None = vector 0 0
+or_empty (Some x) = x
+
+abbrev pub table_value : Names StateValue → Tree → Bits
+table_value names e = or_empty (table_vector names e)
+
+abbrev pub table_number : Names StateValue → Tree → ℕ
+table_number names e = (table_value names e).value
+
+-- names with one more state, field or LET
+abbrev pub with_name : {X : Type 0} → Names X → List ℕ → Option X → Names X
+with_name names name x = record names { named = λ other. if bytes_eq name other then x else names.named other }
+
+-- a field or a LET stands for the value of its expression; where that has none, it isn't in scope
+-- either
+abbrev pub with_rows : List LetTree → Names StateValue → Names StateValue
+with_rows [] names = names
+with_rows (row ∷ rows) names = with_rows rows (with_name names row.name (mapped One (table_vector names row.value)))
+
+-- the same of forms alone
+abbrev pub with_forms : List LetTree → Names Form → Names Form
+with_forms [] forms = forms
+with_forms (row ∷ rows) forms = with_forms rows (with_name forms row.name (mapped vector_form (width (scope_by forms) row.value)))
 
 -- the width of a type, and the form of what has it
 abbrev pub shape_width : Shape → ℕ

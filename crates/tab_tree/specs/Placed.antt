@@ -8,7 +8,8 @@ use Rattle.lola_tree.specs.Width.{width}
 use Rattle.lola_tree.specs.Value.{or_zero}
 use Rattle.tab_tree.specs.declared.table.BusRoles.{BusRoles}
 use Rattle.tab_tree.specs.Table.{StateTree, LetTree, SetTree, TurnsTree, AccessTree, idle_row, take_row, load_row, store_row, fetch_row, PhaseTree, InsideTree, ClassTree, TableTree}
-use Rattle.tab_tree.specs.Names.{Form, vector_form, array_form, Names, scope_by, with_forms, names_by, nothing, fixed, shape_form, state_form, form_width, form_place, mapped}
+use Rattle.tab_tree.specs.Step.{first_of}
+use Rattle.tab_tree.specs.Names.{Form, vector_form, array_form, Names, nothing, no_names, mapped, scope_by, with_forms, fixed, shape_form, state_form, form_width, form_place}
 use Rattle.tab_tree.specs.Registers.{registers_of, source_forms, port_width}
 
 -- an expression with the names in scope, and its width where one is needed
@@ -67,25 +68,28 @@ abbrev pub count_form : Bool → Option Form
 count_form true = Some (vector_form 8)
 count_form false = None
 
--- the names in a class: the word, the states, the words of phases below `loads` and the accumulators of
--- those below `turns`, the count where it counts, and in LINK the registers; but for fields and LETs
-abbrev pub bare_forms : SourceTree → TableTree → List PhaseTree → (loads turns : ℕ) → Bool → (List (List ℕ) → Option Form) → Names Form
-bare_forms S T phases loads turns counts registers =
-    names_by (record {
-      word = Some (vector_form (word_width S T));
-      count = count_form counts;
-      loaded = before loads (λ j. loaded_form S T (phase_at phases j));
-      turned = before turns (λ j. turned_form (phase_at phases j));
-      state = state_form T.states;
-      register = registers;
-    })
-
-abbrev pub class_forms : SourceTree → TableTree → InsideTree → (loads turns : ℕ) → Bool → (List (List ℕ) → Option Form) → Names Form
-class_forms S T b loads turns counts registers = with_forms b.lets (with_forms T.fields (bare_forms S T b.phases loads turns counts registers))
-
 -- a FIELDS row: the word and earlier fields
 abbrev pub word_forms : SourceTree → TableTree → Names Form
-word_forms S T = names_by (record { word = Some (vector_form (word_width S T)); count = None; loaded = nothing; turned = nothing; state = nothing; register = nothing })
+word_forms S T = record no_names { word = Some (vector_form (word_width S T)) }
+
+abbrev pub field_forms : SourceTree → TableTree → List ℕ → Option Form
+field_forms S T = (with_forms T.fields (word_forms S T)).named
+
+-- the names in a class but for its LETs: the word, the states and the fields, the loaded words of phases
+-- below `loads` and the accumulators of those below `turns`, the count where it counts, and in LINK the
+-- registers
+abbrev pub bare_forms : SourceTree → TableTree → List PhaseTree → (loads turns : ℕ) → Bool → (List (List ℕ) → Option Form) → Names Form
+bare_forms S T phases loads turns counts registers = record {
+  word = Some (vector_form (word_width S T));
+  count = count_form counts;
+  loaded = before loads (λ j. loaded_form S T (phase_at phases j));
+  turned = before turns (λ j. turned_form (phase_at phases j));
+  named = λ name. first_of (state_form T.states name) (field_forms S T name);
+  register = registers;
+}
+
+abbrev pub class_forms : SourceTree → TableTree → InsideTree → (loads turns : ℕ) → Bool → (List (List ℕ) → Option Form) → Names Form
+class_forms S T b loads turns counts registers = with_forms b.lets (bare_forms S T b.phases loads turns counts registers)
 
 -- rows one behind another, each over the names of those before it
 abbrev pub rows_placed : List LetTree → Names Form → List Placed
@@ -165,7 +169,7 @@ some_turns (phase ∷ phases) = has_turns phase.turns || some_turns phases
 -- all words and accumulators
 abbrev pub inside_placed : SourceTree → TableTree → InsideTree → List Placed
 inside_placed S T b =
-    rows_placed b.lets (with_forms T.fields (bare_forms S T b.phases (length b.phases) (length b.phases) (some_turns b.phases) nothing))
+    rows_placed b.lets (bare_forms S T b.phases (length b.phases) (length b.phases) (some_turns b.phases) nothing)
     ++ (phases_placed S T b 0 b.phases ++ flat_map (set_placed T (class_forms S T b (length b.phases) (length b.phases) false nothing)) b.sets)
 
 abbrev pub class_placed : SourceTree → TableTree → Option InsideTree → List Placed
@@ -188,5 +192,5 @@ placed S T =
     ++ (rows_placed T.fields (word_forms S T)
     ++ (one_placed S T.invariant
     ∷ one_placed S T.boundary
-    ∷ (flat_map (set_placed T nothing) T.starts
-    ++ (given_placed T.start_fetch nothing (address_width S T.roles.bus) ++ flat_map (λ (c : ClassTree). class_placed S T c.inside) T.classes)))))
+    ∷ (flat_map (set_placed T no_names) T.starts
+    ++ (given_placed T.start_fetch no_names (address_width S T.roles.bus) ++ flat_map (λ (c : ClassTree). class_placed S T c.inside) T.classes)))))

@@ -12,7 +12,7 @@ use Rattle.lola_tree.specs.Width.{vector_width, element_width}
 use Rattle.lola_tree.specs.Value.{Path, Values}
 use Rattle.tab_tree.specs.declared.value.StateValue.{StateValue}
 use Rattle.tab_tree.specs.declared.value.StateValue.TheVariants.{One, Many}
-use Rattle.tab_tree.specs.Names.{vector, Form, vector_form, array_form, Names, mapped}
+use Rattle.tab_tree.specs.Names.{vector, Form, vector_form, array_form, Names, no_names, mapped}
 
 -- the form of what has a type in a module
 abbrev pub array_by : Option ℕ → Option ℕ → Option Form
@@ -108,7 +108,7 @@ registers_at S s path = value_by (registers_of S path) (s path)
 
 -- the names of expressions over registers: `@` names alone
 abbrev pub source_forms : SourceTree → Names Form
-source_forms S r = if r.source then registers_of S r.path else None
+source_forms S = record no_names { register = registers_of S }
 
 abbrev pub source_names : SourceTree → Values → Names StateValue
-source_names S s r = if r.source then registers_at S s r.path else None
+source_names S s = record no_names { register = registers_at S s }

@@ -11,7 +11,7 @@ use Rattle.tab_tree.specs.declared.value.Answer.{Answer}
 use Rattle.tab_tree.specs.declared.value.Access.{Access}
 use Rattle.tab_tree.specs.declared.value.Access.TheVariants.{Idle, Load, Store, Fetch}
 use Rattle.tab_tree.specs.Table.{StateTree, SetTree, TurnsTree, AccessTree, idle_row, take_row, load_row, store_row, fetch_row, PhaseTree, InsideTree, ClassTree, TableTree}
-use Rattle.tab_tree.specs.Names.{vector, Names, table_number, table_value, with_rows, Meanings, names_by, nothing, mapped, shape_width}
+use Rattle.tab_tree.specs.Names.{vector, Names, nothing, no_names, mapped, table_vector, table_number, table_value, with_rows}
 
 -- what a programmer sees: the values of the states, in the order of their rows
 abbrev pub Arch : Type 0
@@ -48,42 +48,43 @@ pub record Words : Type 0 where
 abbrev pub no_words : Words
 no_words = record { loaded = nothing; turned = nothing }
 
-abbrev pub with_at : (ℕ → Option Bits) → ℕ → Bits → ℕ → Option Bits
-with_at f p x j = if nat_eq j p then Some x else f j
+abbrev pub with_at : (ℕ → Option Bits) → ℕ → Option Bits → ℕ → Option Bits
+with_at f p x j = if nat_eq j p then x else f j
 
-abbrev pub with_turned : Words → ℕ → Bits → Words
+abbrev pub with_turned : Words → ℕ → Option Bits → Words
 with_turned m p x = record { loaded = m.loaded; turned = with_at m.turned p x }
 
 abbrev pub with_loaded : Words → ℕ → Bits → Words
-with_loaded m p x = record { loaded = with_at m.loaded p x; turned = m.turned }
+with_loaded m p x = record { loaded = with_at m.loaded p (Some x); turned = m.turned }
 
 -- the count `k` of a turn has width 8
 abbrev pub counted : Option ℕ → Option StateValue
 counted None = None
 counted (Some k) = Some (One (vector 8 k))
 
--- the states, the word, loaded words, accumulators and the count that a class's expressions name; in
--- LINK also the registers
-abbrev pub meanings_of : TableTree → Arch → Bits → Words → Option ℕ → (List (List ℕ) → Option StateValue) → Meanings StateValue
-meanings_of T A i m k registers = record {
-  word = Some (One i);
-  count = counted k;
-  loaded = λ j. mapped One (m.loaded j);
-  turned = λ j. mapped One (m.turned j);
-  state = state_value T.states A;
-  register = registers;
-}
+-- the fields, each over the word and earlier ones
+abbrev pub field_values : TableTree → Bits → List ℕ → Option StateValue
+field_values T i = (with_rows T.fields (record no_names { word = Some (One i) })).named
 
--- with the fields and the LETs row by row, each evaluated where it is used
+abbrev pub first_of : {X : Type 0} → Option X → Option X → Option X
+first_of None other = other
+first_of (Some x) other = Some x
+
+-- what the expressions of a class name: the states and the fields, the word, loaded words, accumulators
+-- and the count, and in LINK the registers; then the LETs, each evaluated where it is used
 abbrev pub link_names : TableTree → InsideTree → Arch → Bits → Words → Option ℕ → (List (List ℕ) → Option StateValue) → Names StateValue
-link_names T b A i m k registers = with_rows b.lets (with_rows T.fields (names_by (meanings_of T A i m k registers)))
+link_names T b A i m k registers =
+    with_rows b.lets (record {
+      word = Some (One i);
+      count = counted k;
+      loaded = λ j. mapped One (m.loaded j);
+      turned = λ j. mapped One (m.turned j);
+      named = λ name. first_of (state_value T.states A name) (field_values T i name);
+      register = registers;
+    })
 
 abbrev pub class_names : TableTree → InsideTree → Arch → Bits → Words → Option ℕ → Names StateValue
 class_names T b A i m k = link_names T b A i m k nothing
-
--- START rows hold no names
-abbrev pub no_names : Names StateValue
-no_names = nothing
 
 -- the value of a state's row in SET or SHOWS, or its old value where there is none; the other elements
 -- of an array stay
@@ -98,7 +99,7 @@ row_value (Some place) x old names = with_element old (table_number names place)
 abbrev pub set_value : List SetTree → StateTree → StateValue → Names StateValue → StateValue
 set_value [] state old names = old
 set_value (row ∷ rows) state old names =
-    if bytes_eq row.name state.name then row_value row.place (vector (shape_width state.shape) (table_number names row.value)) old names
+    if bytes_eq row.name state.name then row_value row.place (table_value names row.value) old names
     else set_value rows state old names
 
 -- all states by the rows, all at once
@@ -138,11 +139,11 @@ module _ (T : TableTree) (b : InsideTree) (A : Arch) (i : Bits) where
   -- the accumulator begins with FROM, and each turn applies STEP, which sees it, with the count k
   abbrev pub entered : ℕ → Option TurnsTree → Words → Words
   entered p None m = m
-  entered p (Some t) m = with_turned m p (vector (shape_width t.shape) (table_number (class_names T b A i m None) t.first))
+  entered p (Some t) m = with_turned m p (table_vector (class_names T b A i m None) t.first)
 
   abbrev pub stepped : ℕ → Option TurnsTree → Words → ℕ → Words
   stepped p None m k = m
-  stepped p (Some t) m k = with_turned m p (vector (shape_width t.shape) (table_number (class_names T b A i m (Some k)) t.step))
+  stepped p (Some t) m k = with_turned m p (table_vector (class_names T b A i m (Some k)) t.step)
 
   -- the words after some turns of a phase that began with m
   abbrev pub turn_words : ℕ → Option TurnsTree → Words → ℕ → Words
