@@ -1,0 +1,6 @@
+pub mod Numbers
+pub mod Tree
+pub mod Value
+pub mod Signals
+pub mod Formed
+pub mod Cycle
