@@ -10,7 +10,7 @@ use std::alloc::AllocError;
 
 /// Appends an expression.
 #[cycle(print)]
-pub(crate) fn push_expr(out: &mut Vec<u8>, expr: &Expr) -> Result<(), AllocError>
+pub fn push_expr(out: &mut Vec<u8>, expr: &Expr) -> Result<(), AllocError>
     ensures { OnOk result (out.new.items ≡ out.old.items ++ expr_text (tree expr.now)) }
 {
     match expr {

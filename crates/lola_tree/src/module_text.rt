@@ -68,7 +68,7 @@ fn push_way(out: &mut Vec<u8>, way: Way) -> Result<(), AllocError>
 }
 
 /// Appends a type: a width that has a word stands as that word, but for the width 1 of an array.
-fn push_shape(out: &mut Vec<u8>, shape: &Shape) -> Result<(), AllocError>
+pub fn push_shape(out: &mut Vec<u8>, shape: &Shape) -> Result<(), AllocError>
     ensures { OnOk result (out.new.items ≡ out.old.items ++ shape_text shape.now) }
 {
     match shape {

@@ -7,7 +7,7 @@ use lola_bits::Name;
 use std::alloc::AllocError;
 
 /// Appends a name.
-pub(crate) fn push_name(out: &mut Vec<u8>, name: &Name) -> Result<(), AllocError>
+pub fn push_name(out: &mut Vec<u8>, name: &Name) -> Result<(), AllocError>
     ensures { OnOk result (out.new.items ≡ out.old.items ++ name_text name.now) }
 {
     out.extend_from_slice(name.text().as_bytes())?;
@@ -16,11 +16,7 @@ pub(crate) fn push_name(out: &mut Vec<u8>, name: &Name) -> Result<(), AllocError
 }
 
 /// Appends a number in decimal digits, with its width where it has one.
-pub(crate) fn push_number(
-    out: &mut Vec<u8>,
-    value: u128,
-    width: Option<u128>,
-) -> Result<(), AllocError>
+pub fn push_number(out: &mut Vec<u8>, value: u128, width: Option<u128>) -> Result<(), AllocError>
     ensures { OnOk result (out.new.items ≡ out.old.items ++ number_text value width) }
 {
     push_decimal(out, value)?;

@@ -9,7 +9,8 @@ use Rattle.lola_tree.specs.declared.module.Port.{Port}
 use Rattle.lola_tree.specs.declared.module.Way.TheVariants.{Outward}
 use Rattle.lola_tree.specs.Tree.{Tree, number, whole, bit, slice, index, concat, negation, binary, choice, Parts, no_part, one_part, ModuleTree, SourceTree}
 use Rattle.lola_tree.specs.Width.{is_width, width}
-use Rattle.lola_tree.specs.Cycle.{IsIn, IsRoot, IsInput}
+use Rattle.lola_bits.specs.Lists.{IsIn, AreDistinct}
+use Rattle.lola_tree.specs.Cycle.{IsRoot, IsInput}
 use Rattle.tab_tree.specs.declared.table.Active.{Active}
 use Rattle.tab_tree.specs.declared.table.BusRoles.{BusRoles}
 use Rattle.tab_tree.specs.Table.{RolesTree, StateTree, LetTree, SetTree, TurnsTree, AccessTree, idle_row, take_row, load_row, store_row, fetch_row, PhaseTree, InsideTree, ClassTree, TableTree}
@@ -19,15 +20,6 @@ use Rattle.tab_tree.specs.Step.{fits}
 use Rattle.tab_tree.specs.Placed.{Placed, word_width, placed}
 
 -- ---- what is declared twice
-
-abbrev pub IsApart : {X : Type 0} → X → List X → Type 0
-IsApart x [] = Unit {0}
-IsApart x (y ∷ ys) = (x ≢ y) × IsApart x ys
-
--- names that come once
-abbrev pub AreOnce : List (List ℕ) → Type 0
-AreOnce [] = Unit {0}
-AreOnce (name ∷ names) = IsApart name names × AreOnce names
 
 -- `i`, `k`, and `d` or `t` with digits behind it can't be declared
 abbrev pub is_word_name : List ℕ → Bool
@@ -51,10 +43,10 @@ abbrev pub AreDeclarable : List (List ℕ) → Type 0
 AreDeclarable names = AllByRecursion (λ name. is_word_name name ≡ false) names
 
 pub record InsideOnce (T : TableTree) (b : InsideTree) : Type 0 where
-  pub names : AreOnce (names_in T b.lets)
+  pub names : AreDistinct (names_in T b.lets)
   pub declarable : AreDeclarable (names_in T b.lets)
-  pub sets : AreOnce (set_names b.sets)
-  pub shows : AllByRecursion (λ (phase : PhaseTree). AreOnce (set_names phase.shows)) b.phases
+  pub sets : AreDistinct (set_names b.sets)
+  pub shows : AllByRecursion (λ (phase : PhaseTree). AreDistinct (set_names phase.shows)) b.phases
 
 -- what holds of the steps of each class that has some
 abbrev pub OfInside : (InsideTree → Type 0) → Option InsideTree → Type 0
@@ -65,10 +57,10 @@ abbrev pub EachInside : (ClassTree → InsideTree → Type 0) → TableTree → 
 EachInside P T = AllByRecursion (λ (c : ClassTree). OfInside (P c) c.inside) T.classes
 
 pub record ComesOnce (T : TableTree) : Type 0 where
-  pub classes : AreOnce (map (λ (c : ClassTree). c.name) T.classes)
-  pub names : AreOnce (names_in T [])
+  pub classes : AreDistinct (map (λ (c : ClassTree). c.name) T.classes)
+  pub names : AreDistinct (names_in T [])
   pub declarable : AreDeclarable (names_in T [])
-  pub starts : AreOnce (set_names T.starts)
+  pub starts : AreDistinct (set_names T.starts)
   pub inside : EachInside (λ c b. InsideOnce T b) T
 
 -- ---- names in scope, and what they are
@@ -211,8 +203,8 @@ pub record HasRoles (S : SourceTree) (roles : RolesTree) : Type 0 where
   pub loaded : IsInRole S roles.loaded
   pub bus : IsBusRole S roles.bus
   pub code : is_some roles.code ≡ is_some roles.fetched
-  pub fetches_apart : AreOnce (roles.reset.port ∷ (active_port roles.stall ++ given_port roles.fetched))
-  pub loads_apart : AreOnce (roles.reset.port ∷ (active_port roles.stall ++ given_port roles.loaded))
+  pub fetches_apart : AreDistinct (roles.reset.port ∷ (active_port roles.stall ++ given_port roles.fetched))
+  pub loads_apart : AreDistinct (roles.reset.port ∷ (active_port roles.stall ++ given_port roles.loaded))
 
 -- ---- widths
 

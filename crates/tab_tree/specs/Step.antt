@@ -4,7 +4,7 @@ use Rattle.std.specs.Prelude.{◌≡◌, ℕ, zero, suc, ◌+◌, ◌-◌, ◌<�
 use Rattle.lola_bits.specs.declared.vector.Bits.{Bits}
 use Rattle.lola_bits.specs.Number.{bit_at}
 use Rattle.lola_tree.specs.Tree.{Tree}
-use Rattle.lola_tree.specs.Cycle.{IsIn}
+use Rattle.lola_bits.specs.Lists.{IsIn}
 use Rattle.tab_tree.specs.declared.value.StateValue.{StateValue}
 use Rattle.tab_tree.specs.declared.value.StateValue.TheVariants.{One, Many}
 use Rattle.tab_tree.specs.declared.value.Answer.{Answer}

@@ -1,0 +1,7 @@
+use Rattle.std.proofs.Common.{◌≡◌, ◌++◌, drop, map}
+use Rattle.tab_tree.specs.Table.{set_tree}
+use Rattle.tab_tree.specs.Print.{starts_text}
+use Rattle.tab_tree.proofs.row_text.push_starts.Given as goal
+
+abbrev pub invariant-loop-row : goal.invariant-loop-row
+invariant-loop-row l = l.out.items ++ starts_text (map set_tree (drop l.row-index l.rows)) ≡ l.fn.out.items ++ starts_text (map set_tree l.rows)
