@@ -33,24 +33,24 @@ one_more (Some old) (Some then') (Some now) text m n within a b = b ∙ ap (λ x
 one_more (Some old) (Some then') None text m n within a b = absurd b
 one_more (Some old) None now text m n within a b = absurd a
 
--- a sink that took some of the rest of a text holds a longer front of it
+-- a sink that took some of the rest of a text holds a longer front of it, and no fault rose
 pub record Longer (first now : Option (List ℕ)) (text : List ℕ) (before after at : ℕ) : Type 0 where
   pub within : at ≤ length text
-  pub not_fallen : before ≤ after
+  pub same : after ≡ before
   pub printed : Appended first now (take at text)
 
-pub took_more : (first then' now : Option (List ℕ)) (text rest : List ℕ) (before middle after at n : ℕ) → at ≤ length text → before ≤ middle → Appended first then' (take at text) → rest ≡ drop at text → Took rest n then' now middle after → Longer first now text before after (at + n)
-took_more first then' now text rest before middle after at n within low a e took =
+pub took_more : (first then' now : Option (List ℕ)) (text rest : List ℕ) (before middle after at n : ℕ) → at ≤ length text → middle ≡ before → Appended first then' (take at text) → rest ≡ drop at text → Took rest n then' now middle after → Longer first now text before after (at + n)
+took_more first then' now text rest before middle after at n within quiet a e took =
     let fits : n ≤ length rest = took.within in
     let long : length rest ≡ length text - at = ap length e ∙ length-drop at text in
     record {
       within = omega arith;
-      not_fallen = let up : middle ≤ after = took.not_fallen in omega arith;
+      same = took.same ∙ quiet;
       printed = one_more first then' now text at n within a (subst (λ (piece : List ℕ). Appended then' now (take n piece)) e took.appended);
     }
 
 -- whatever a sink answers, a front of the text was appended
 pub front_appended : (text : List ℕ) (old new : Option (List ℕ)) (before now : ℕ) (r : Result Unit SinkError) → Wrote text old new before now r → AppendedFront old new text
-front_appended text old new before now (Ok done) wrote = (length text, subst (λ (piece : List ℕ). Appended old new piece) (sym (take-length text)) wrote)
+front_appended text old new before now (Ok done) wrote = (length text, subst (λ (piece : List ℕ). Appended old new piece) (sym (take-length text)) wrote.0)
 front_appended text old new before now (Err sink.Failed) wrote = wrote.0
-front_appended text old new before now (Err sink.Memory) wrote = wrote
+front_appended text old new before now (Err sink.Memory) wrote = wrote.0

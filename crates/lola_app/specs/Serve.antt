@@ -170,12 +170,12 @@ ReadText items told name before now (Err (TooLong word)) = (string_bytes word �
 ReadText items told name before now (Err NoMemory) = Unit {0}
 ReadText items told name before now (Err _) = ⊥
 
--- how an outcome ends: its text is printed whole, and the status is its own; the sink's count of
--- faults rose, a front of its text is printed, and the status is WriteFault, but that Memory stays;
--- or memory was wanting while it was made or printed, and a front of it or of the line of that
--- outcome is printed
+-- how an outcome ends: its text is printed whole, the sink's count of faults is as before, and the status
+-- is its own; the count rose, a front of its text is printed, and the status is WriteFault, but that
+-- Memory stays; or memory was wanting while it was made or printed, and a front of it or of the line of
+-- that outcome is printed
 pub data Ends (outcome : Outcome) (old new : Option (List ℕ)) (before now : ℕ) (ended : Status) : Type 0 where
-  whole : Appended old new (text_of outcome) → ended ≡ status_of outcome → Ends outcome old new before now ended
+  whole : Appended old new (text_of outcome) → now ≡ before → ended ≡ status_of outcome → Ends outcome old new before now ended
   fault : AppendedFront old new (text_of outcome) → Rose before now → status_of outcome ≢ status.Memory →
       ended ≡ status.WriteFault → Ends outcome old new before now ended
   short : AppendedFront old new (text_of outcome) → ended ≡ status.Memory → Ends outcome old new before now ended

@@ -84,14 +84,13 @@ Written old new name bytes (Err store.Memory) = new ≡ old
 abbrev pub Appended : Option (List ℕ) → Option (List ℕ) → List ℕ → Type 0
 Appended old new piece = StaysTold (λ before after. after ≡ before ++ piece) old new
 
--- the first n bytes of a piece were appended, at least one where the piece has any; the count of
--- faults has not fallen, and an empty piece leaves it
+-- the first n bytes of a piece were appended, at least one where the piece has any, and the count of
+-- faults is as before
 pub record Took (piece : List ℕ) (n : ℕ) (old new : Option (List ℕ)) (before now : ℕ) : Type 0 where
   pub within : n ≤ length piece
   pub progress : 0 < length piece → 0 < n
   pub appended : Appended old new (take n piece)
-  pub not_fallen : before ≤ now
-  pub idle : length piece ≡ 0 → now ≡ before
+  pub same : now ≡ before
 
 -- nothing of a piece that has bytes was appended, and the count of faults rose
 pub record Refused (piece : List ℕ) (old new : Option (List ℕ)) (before now : ℕ) : Type 0 where

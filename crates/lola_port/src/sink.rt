@@ -17,7 +17,7 @@ pub enum SinkError {
 /// Where printed bytes go.
 ///
 /// A sink means the bytes that were written, where it tells them, and a count of faults that never
-/// falls and stands still at the greatest u64.
+/// falls and stands still at the greatest u64. Only an answer `Failed` raises it.
 pub trait Sink {
     // the bytes that were written, where the sink tells them
     ghost bytes: { Self → Option (List ℕ) };
@@ -26,7 +26,8 @@ pub trait Sink {
     ghost faults: { Self → ℕ };
 
     /// Appends the first bytes of a piece and answers how many: from 1 to its length, or 0 for an
-    /// empty piece, which is never refused. A refusal has appended nothing.
+    /// empty piece, which is never refused; the count of faults is as before then. A refusal has
+    /// appended nothing.
     fn write(&mut self, piece: &[u8]) -> Result<usize, SinkError>
         ensures { Sunk piece.now (bytes self.old) (bytes self.new)
             (faults self.old) (faults self.new) result };

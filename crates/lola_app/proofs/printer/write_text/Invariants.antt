@@ -1,11 +1,11 @@
-use Rattle.std.proofs.Common.{length, take, ◌-◌, ◌≤◌}
+use Rattle.std.proofs.Common.{◌≡◌, length, take, ◌-◌, ◌≤◌}
 use Rattle.lola_port.specs.Outside.{Appended}
 use Rattle.lola_app.proofs.printer.write_text.Given as goal
 
 abbrev pub invariant-loop-at : goal.invariant-loop-at
 invariant-loop-at g l = record {
   within : l.at ≤ length l.text;
-  not_fallen : g.O.Sink.faults l.fn.out ≤ g.O.Sink.faults l.out;
+  same : g.O.Sink.faults l.out ≡ g.O.Sink.faults l.fn.out;
   printed : Appended (g.O.Sink.bytes l.fn.out) (g.O.Sink.bytes l.out) (take l.at l.text);
 }
 
