@@ -15,6 +15,7 @@ use Rattle.lola_tree.specs.Cycle.{IsIn, IsRoot, IsRegisterOf, IsRegister, IsInpu
 use Rattle.lola_tree.specs.Signals.{is_among, register_names, IsSignal, register, input, output}
 use Rattle.lola_elab.specs.Small.{IsBuilt, AreBuilt, IsLeaf, IsReadable, IsTarget, IsSmallStmt, target_of, AreDistinct, IsSmallModule, IsSmallSource}
 use Rattle.lola_elab.specs.Elaborated.{HasOneCycle}
+use Rattle.lola_elab.proofs.Bits.{next_state}
 use Rattle.lola_elab.proofs.Roots.{root_is}
 use Rattle.lola_elab.proofs.Lists.{of_all, to_map, from_map, same_name, other_name, among, not_among}
 use Rattle.lola_elab.proofs.Names.{is_register, register_listed, all_names, input_no_target, output_no_register}
@@ -255,4 +256,5 @@ has_one_cycle S small s inp state given =
             (next_here m v small.small.once),
       );
       same_next = same_next S small;
+      next_state = λ v s' cycle next. next_state S s inp v s' small state given cycle next;
     }

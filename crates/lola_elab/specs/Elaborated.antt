@@ -4,7 +4,7 @@ use Rattle.lola_tree.specs.Tree.{ModuleTree, SourceTree}
 use Rattle.lola_tree.specs.Names.{names_of}
 use Rattle.lola_tree.specs.Width.{entry_width}
 use Rattle.lola_tree.specs.Value.{Path, Values}
-use Rattle.lola_tree.specs.Cycle.{IsRegister, Cycle, Next}
+use Rattle.lola_tree.specs.Cycle.{IsRegister, IsState, Cycle, Next}
 use Rattle.lola_tree.specs.Signals.{input_names, register_names, values_of, IsSignal}
 use Rattle.lola_tree.specs.declared.named.Shape.{Shape}
 use Rattle.lola_elab.specs.declared.design.Design.{Design}
@@ -45,10 +45,11 @@ pub record Elaborates (S : SourceTree) (d : Design) : Type 0 where
   pub nexts : (v s' : Values) → Next S v s' →
       values_of s' (register_names small.root.locals) ≡ map (λ (f : Flat). flat_number (leaf_widths d) f (values_of v (leaf_names small.root))) d.nexts.items
 
--- a state and an input have one cycle: there is one, any two agree on each signal, a state stands
--- behind it, and any two states behind it agree on each register
+-- a state and an input have one cycle: there is one, any two agree on each signal, next values stand
+-- behind it, any two agree on each register, and they are a state
 pub record HasOneCycle (S : SourceTree) (s inp : Values) : Type 0 where
   pub cycle : (v : Values) × Cycle S s inp v
   pub same : (v w : Values) → Cycle S s inp v → Cycle S s inp w → (path : Path) → IsSignal S path → v path 0 ≡ w path 0
   pub next : (v : Values) → (s' : Values) × Next S v s'
   pub same_next : (v s' t' : Values) → Next S v s' → Next S v t' → (path : Path) (type : Shape) → IsRegister S path type → s' path 0 ≡ t' path 0
+  pub next_state : (v s' : Values) → Cycle S s inp v → Next S v s' → IsState S s'

@@ -6,7 +6,7 @@ ghost use Rattle.lola_tree.specs.Cycle.{IsState, IsGiven, Cycle, Next};
 ghost use Rattle.lola_elab.specs.Small.{IsSmallSource};
 ghost use Rattle.lola_elab.specs.Elaborated.{HasOneCycle};
 
-/// In a design of the small form each state and input have exactly one cycle.
+/// In a design of the small form each state and input have exactly one cycle, and a state stands behind it.
 pub fn one_cycle()
     ensures { (S : SourceTree) → IsSmallSource S → (s inp : Values) → IsState S s → IsGiven S inp → HasOneCycle S s inp }
 {}
