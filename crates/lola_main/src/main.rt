@@ -5,6 +5,7 @@
 use lola_app::{Status, serve, status_number};
 use lola_port::{RealSink, RealStore, Seat};
 use std::alloc::{AllocError, Global};
+use std::io::ErrorKind;
 use std::process::ExitCode;
 use std::{env, io};
 
@@ -21,10 +22,14 @@ fn main(rt: HostRuntime) -> ExitCode {
     ExitCode::from(status_number(status))
 }
 
-/// The words behind the program's name.
+/// The words behind the program's name. No command has a word that isn't UTF-8, so where one isn't
+/// there are none, which are no command either.
 fn words(rt: &HostRuntime) -> io::Result<Vec<String>> {
-    let words = env::args(rt)?.skip(1).collect::<Vec<String>>(rt.alloc())?;
-    Ok(words)
+    match env::args(rt) {
+        Ok(words) => Ok(words.skip(1).collect::<Vec<String>>(rt.alloc())?),
+        Err(error) if error.kind() == ErrorKind::InvalidData => Ok(Vec::new(rt.alloc())),
+        Err(error) => Err(error),
+    }
 }
 
 /// The seats of the bus by byte address: the memory, its upper end for the first instructions, and a
