@@ -1,0 +1,5 @@
+pub mod Agree
+pub mod Pads
+pub mod Counts
+pub mod Paths
+pub mod Stored

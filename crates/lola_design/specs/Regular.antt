@@ -1,0 +1,71 @@
+-- What a well sized design keeps to, in the words of its signals and equations: names and assignments come once,
+-- pads are passed on and driven as such, what is read is a signal, and values fit their signals.
+use Rattle.std.specs.Prelude.{◌≡◌, ◌≢◌, ◌⊎◌, ℕ, List, [], ◌++◌, reverse, Option, Some, None, IsSome}
+use Rattle.lola_bits.specs.Lists.{IsIn}
+use Rattle.lola_tree.specs.declared.named.Shape.{Shape}
+use Rattle.lola_tree.specs.declared.named.Shape.TheVariants as shape
+use Rattle.lola_tree.specs.Tree.{Tree, ActualTree, SourceTree}
+use Rattle.lola_tree.specs.Names.{Names}
+use Rattle.lola_tree.specs.Width.{vector_width, element_width, scope_of}
+use Rattle.lola_tree.specs.Value.{Path, Values, value}
+use Rattle.lola_tree.specs.Cycle.{names_at, FitsIn}
+use Rattle.lola_tree.specs.design.Signals.{clock, pad, register, Signal, signals}
+use Rattle.lola_tree.specs.design.Equations.{Equation, right_value, Update, updates}
+use Rattle.lola_tree.specs.design.Cycle.{IsSignal, Suits}
+use Rattle.lola_tree.specs.design.Chains.{names_in, arrays_in, paths_of, right_paths, right_arrays, flat_equations}
+use Rattle.lola_design.specs.Assigned.{AreAssigned}
+use Rattle.lola_design.specs.Once.{AllOnce}
+use Rattle.lola_design.specs.Drives.{PadsFit}
+
+-- a type is a vector, or an array
+abbrev pub IsVector : Shape → Type 0
+IsVector (shape.Vector width) = Unit {0}
+IsVector (shape.Array count width) = ⊥
+
+abbrev pub IsArray : Shape → Type 0
+IsArray (shape.Vector width) = ⊥
+IsArray (shape.Array count width) = Unit {0}
+
+-- the vectors and the arrays that an update reads
+abbrev pub place_paths : Path → (Tree → List Path) → Option ActualTree → List Path
+place_paths p in_tree None = []
+place_paths p in_tree (Some place) = in_tree place.value
+
+abbrev pub update_paths : Update → List Path
+update_paths u =
+    place_paths u.path (λ (e : Tree). paths_of u.path (names_in (scope_of u.module_) e)) u.place ++ paths_of u.path (names_in (scope_of u.module_) u.value)
+
+abbrev pub update_arrays : Update → List Path
+update_arrays u = place_paths u.path (λ (e : Tree). paths_of u.path (arrays_in e)) u.place ++ paths_of u.path (arrays_in u.value)
+
+-- what is read: as vectors signals but the clock that are vectors, and as arrays registers
+pub record AreRead (S : SourceTree) (vectors arrays : List Path) : Type 0 where
+  pub vector : (y : Path) → IsIn y vectors → (x : Signal) × IsIn x (signals S) × (x.kind ≢ clock) × (x.path ≡ y)
+  pub array : (y : Path) → IsIn y arrays → (x : Signal) × IsSignal S register x × IsArray x.type × (x.path ≡ y)
+
+-- a number fits what has this type, or each of its elements
+abbrev pub FitsType : Names → Shape → ℕ → Type 0
+FitsType names (shape.Vector width) n = FitsIn (vector_width names (Some (shape.Vector width))) n
+FitsType names (shape.Array count width) n = FitsIn (element_width names (Some (shape.Array count width))) n
+
+-- what is read has values of its types
+abbrev pub ReadsSuit : SourceTree → List Path → List Path → Values → Type 0
+ReadsSuit S vectors arrays v = (x : Signal) → IsIn x (signals S) → IsIn x.path vectors ⊎ IsIn x.path arrays → Suits x.names x.type (v x.path)
+
+-- then so has what an equation or an update gives
+pub record ValuesFit (S : SourceTree) : Type 0 where
+  pub by_equation : (e : Equation) → IsIn e (flat_equations S) → (x : Signal) → IsIn x (signals S) → x.path ≡ e.left → (outside v : Values) →
+      ((y : Signal) → IsSignal S pad y → Suits y.names y.type (outside y.path)) → ReadsSuit S (right_paths e.right) (right_arrays e.right) v →
+      FitsType x.names x.type (right_value outside v e.right)
+  pub by_update : (u : Update) → IsIn u (updates S) → (x : Signal) → IsIn x (signals S) → x.path ≡ u.left → (v : Values) → ReadsSuit S (update_paths u) (update_arrays u) v →
+      FitsType x.names x.type (value (scope_of u.module_) u.value (names_at u.path v))
+
+pub record IsRegular (S : SourceTree) : Type 0 where
+  pub names : AllOnce (reverse S.modules)
+  pub assigned : AreAssigned (reverse S.modules)
+  pub pads : PadsFit S
+  pub vectors : (x : Signal) → IsIn x (signals S) → x.kind ≢ register → IsVector x.type
+  pub equation_reads : (e : Equation) → IsIn e (flat_equations S) → AreRead S (right_paths e.right) (right_arrays e.right)
+  pub update_reads : (u : Update) → IsIn u (updates S) → AreRead S (update_paths u) (update_arrays u)
+  pub update_places : (u : Update) → IsIn u (updates S) → (x : Signal) → IsIn x (signals S) → x.path ≡ u.left → IsArray x.type → IsSome u.place
+  pub values : ValuesFit S
