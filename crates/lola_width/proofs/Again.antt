@@ -1,22 +1,13 @@
 -- The faults of declarations, told by two declarations of one name.
 use Rattle.std.proofs.Common.{◌≡◌, ◌⊎◌, ℕ, ◌≤◌, Bool, true, false, cond, nat_lt, bytes_eq, List, [], ◌∷◌, ◌++◌, Option, Some, None, inl, inr, refl, sym, ap, ◌∙◌, subst, append_assoc, arith}
+use Rattle.lola_bits.proofs.Lists.{parted, is_between, in_front, in_back, in_either}
+use Rattle.lola_bits.specs.Lists.{IsIn}
+use Rattle.lola_bits.proofs.Names.{is_same_name, same_name}
 use Rattle.lola_tree.specs.Tree.{ModuleTree}
 use Rattle.lola_tree.specs.Names.{Entry, entry_name, entry_at, entries, earlier, Names}
-use Rattle.lola_tree.specs.Cycle.{IsIn}
 use Rattle.lola_width.specs.declared.fault.SourceFault.TheVariants.{Doubled}
 use Rattle.lola_width.specs.NameFaults.{no_names, names_with, doubled, doubled_faults}
 use Rattle.lola_width.specs.Said.{later_place, IsDeclaredAgain, AreDoubled}
-use Rattle.lola_width.proofs.Naming.{equal_bytes}
-use Rattle.lola_width.proofs.Saying.{in_front, in_back, in_either, same_bytes}
-
--- an item of a list stands between a front and what is behind it
-split : {X : Type 0} (x : X) (xs : List X) → IsIn x xs → (front : List X) × (behind : List X) × (xs ≡ front ++ x ∷ behind)
-split x [] h = absurd h
-split x (y ∷ xs) (inl e) = ([], xs, ap (λ z. z ∷ xs) (sym e))
-split x (y ∷ xs) (inr h) = let r = split x xs h in (y ∷ r.0, r.1, ap (λ zs. y ∷ zs) r.2)
-
-is_between : {X : Type 0} (x : X) (front behind : List X) → IsIn x (front ++ x ∷ behind)
-is_between x front behind = in_back x front (x ∷ behind) (inl refl)
 
 -- what a name stands for is among the declarations so far, under that name
 abbrev Stands : Names → List Entry → Type 0
@@ -34,7 +25,7 @@ from_earlier (Some o) true e g h = told (nat_lt (entry_at e) (entry_at o)) h whe
 stands_more : (names : Names) (prior : List Entry) (e : Entry) → Stands names prior → Stands (names_with names (entry_name e) e) (prior ++ e ∷ [])
 stands_more names prior e stands n g h = elim (from_earlier (names n) (bytes_eq (entry_name e) n) e g h) [
   | inl old ↦ (let r = stands n g old in (in_front g prior (e ∷ []) r.0, r.1))
-  | inr new ↦ (in_back g prior (e ∷ []) (inl (sym new.1)), ap entry_name (sym new.1) ∙ equal_bytes (entry_name e) n new.0)
+  | inr new ↦ (in_back g prior (e ∷ []) (inl (sym new.1)), ap entry_name (sym new.1) ∙ is_same_name (entry_name e) n new.0)
 ]
 
 -- a fault is told by two declarations
@@ -48,7 +39,7 @@ here_again names prior e es stands at name h = told (names (entry_name e)) refl 
       let place : later_place g e ≡ at = cc in
       let named : entry_name e ≡ name = cc in
       let known = stands (entry_name e) g is in
-      let parts = split g prior known.0 in
+      let parts = parted g prior known.0 in
       record {
         front = parts.0;
         one = g;
@@ -125,7 +116,7 @@ known_after names (x ∷ es) f g n (inr there) named is le =
     told false t e lt further = further (rw (is, e) refl)
     told true false e lt further = further (rw (is, e, lt) refl)
     told true true e lt further =
-        let same = equal_bytes (entry_name x) n e in
+        let same = is_same_name (entry_name x) n e in
         let low : entry_at x ≤ entry_at g = grind (arith, lt) in
         in_front (Doubled (entry_at g) n) (doubled (names (entry_name x)) (entry_at x) (entry_name x)) (doubled_faults (names_with names (entry_name x) x) es)
         (doubled_at (names (entry_name x)) g (entry_at x) (entry_at g) (entry_name x) n (ap names same ∙ is) (high_place (entry_at g) (entry_at x) low) same)
@@ -140,7 +131,7 @@ added_low (Some g) x = told (nat_lt (entry_at x) (entry_at g)) refl where
 
 -- the two declarations, behind which more may stand
 added : (names : Names) (x : Entry) (n : List ℕ) → entry_name x ≡ n → names_with names (entry_name x) x n ≡ earlier (names n) (Some x)
-added names x n named = ap (λ b. earlier (names n) (cond b (Some x) None)) (same_bytes (entry_name x) n named)
+added names x n named = ap (λ b. earlier (names n) (cond b (Some x) None)) (same_name (entry_name x) n named)
 
 first_again : (names : Names) (x y : Entry) (rest : List Entry) (n : List ℕ) → IsIn y rest → entry_name x ≡ n → entry_name y ≡ n → (t : Bool) → nat_lt (entry_at y) (entry_at x) ≡ t →
     IsIn (Doubled (cond t (entry_at x) (entry_at y)) n) (doubled_faults names (x ∷ rest))

@@ -1,5 +1,5 @@
 -- The first of several faults.
-use Rattle.std.proofs.Common.{◌≡◌, List, [], ◌∷◌, ◌++◌, Option, Some, None, Result, Ok, Err, OnOk, refl, ◌∙◌}
+use Rattle.std.proofs.Common.{◌≡◌, List, [], ◌∷◌, ◌++◌, Option, Some, None, refl, ◌∙◌}
 use Rattle.lola_tree.specs.Tree.{SourceTree}
 use Rattle.lola_width.specs.declared.fault.SourceFault.{SourceFault}
 use Rattle.lola_width.specs.Order.{sooner, first_after}
@@ -16,11 +16,6 @@ step found now xs rest is = rw (is, first_append) refl
 pub step_two : (found mid now : Option SourceFault) (xs ys rest : List SourceFault) → mid ≡ first_after found xs → now ≡ first_after mid ys →
     first_after now rest ≡ first_after found (xs ++ (ys ++ rest))
 step_two found mid now xs ys rest is then = step mid now ys rest then ∙ step found mid xs (ys ++ rest) is
-
--- what follows where a call succeeds
-pub on_ok : {V E : Type 0} {P Q : Type 0} (r : Result V E) → (P → Q) → OnOk r P → OnOk r Q
-on_ok (Ok v) f p = f p
-on_ok (Err e) f p = tt
 
 -- a fault that was found stays one, so where none is answered there is none
 pub none_found : (faults : List SourceFault) → first_after None faults ≡ None → faults ≡ []

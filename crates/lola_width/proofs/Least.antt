@@ -1,7 +1,9 @@
 -- The first of several faults is among them, and none is sooner.
 use Rattle.std.proofs.Common.{◌≡◌, ◌⊎◌, ℕ, ◌<◌, Bool, true, false, cond, nat_eq, nat_lt, List, [], ◌∷◌, Some, None, inl, inr, refl, sym, ap, ◌∙◌, subst, arith}
+use Rattle.std.proofs.lemmas.Bool.{false_from_ne_true}
+use Rattle.lola_bits.proofs.Tests.{not_both}
+use Rattle.lola_bits.specs.Lists.{IsIn}
 use Rattle.lola_tree.specs.Tree.{SourceTree}
-use Rattle.lola_tree.specs.Cycle.{IsIn}
 use Rattle.lola_width.specs.declared.fault.SourceFault.{SourceFault}
 use Rattle.lola_width.specs.Order.{stage_of, place_of, row_of, is_sooner, first_after}
 use Rattle.lola_width.specs.Sized.{source_faults}
@@ -64,13 +66,6 @@ decides f g (inr e) = then_same (stage_of f) (stage_of g) _ e.0 (elim e.1 [
   | inr l ↦ then_same (place_of f) (place_of g) _ l.0 (lt_is (row_of f) (row_of g) l.1)
 ])
 
-untrue : (b : Bool) → (b ≡ true → ⊥) → b ≡ false
-untrue true wrong = absurd (wrong refl)
-untrue false wrong = refl
-
-never : {b : Bool} → b ≡ true → b ≡ false → ⊥
-never e f = (cc)
-
 sooner_through : (f g h : SourceFault) → is_sooner f g ≡ true → is_sooner g h ≡ true → is_sooner f h ≡ true
 sooner_through f g h = through (stage_of f) (place_of f) (row_of f) (stage_of g) (place_of g) (row_of g) (stage_of h) (place_of h) (row_of h)
 
@@ -90,7 +85,7 @@ keep true x g xs f is new old e =
     let ih = new e in
     record {
       there = elim ih.there [ inl p ↦ inr (inl p) | inr i ↦ inr (inr i) ];
-      first = untrue (is_sooner g f) (λ t. never (sooner_through x g f is t) ih.first);
+      first = false_from_ne_true (is_sooner g f) (λ t. not_both (sooner_through x g f is t) ih.first);
       others = λ h i. elim i [ inl p ↦ subst (λ k. is_sooner k f ≡ false) (sym p) ih.first | inr j ↦ ih.others h j ];
     }
 keep false x g xs f is new old e =
@@ -99,7 +94,7 @@ keep false x g xs f is new old e =
       there = elim ih.there [ inl p ↦ inl p | inr i ↦ inr (inr i) ];
       first = ih.first;
       others = λ h i. elim i [
-        | inl p ↦ subst (λ k. is_sooner k f ≡ false) (sym p) (untrue (is_sooner x f) (λ t. never (sooner_between x g f t ih.first) is))
+        | inl p ↦ subst (λ k. is_sooner k f ≡ false) (sym p) (false_from_ne_true (is_sooner x f) (λ t. not_both (sooner_between x g f t ih.first) is))
         | inr j ↦ ih.others h j
       ];
     }
@@ -121,5 +116,5 @@ answers S = record {
   none = (λ e. record { none = none_found (source_faults S) e }, λ sized. ap (first_after None) sized.none);
   first = λ f e.
       let is = first_is (source_faults S) f e in
-      record { holds = is.0; none_sooner = λ g i s. never (decides g f s) (is.1 g i) };
+      record { holds = is.0; none_sooner = λ g i s. not_both (decides g f s) (is.1 g i) };
 }

@@ -1,7 +1,6 @@
 -- Tables of names after one more declaration.
 use Rattle.std.proofs.Common.{◌≡◌, ℕ, List, [], ◌∷◌, ◌++◌, append_assoc, bytes_eq, arith, Bool, true, false, cond, nat_lt, Option, Some, None, refl, sym, ◌∙◌, ap}
 use Rattle.std.proofs.lemmas.Bool.{cond-true, cond-false}
-use Rattle.std.proofs.lemmas.Slice.Eq.{bytes_eq-Decides}
 use Rattle.lola_width.specs.declared.declared.Declared.{Declared}
 use Rattle.lola_tree.specs.Names.{Entry, entry_name, entry_at, earlier, Names, first_named}
 use Rattle.lola_width.specs.NameFaults.{no_names, comes_first, names_with, names_with_all, doubled, doubled_faults}
@@ -25,9 +24,6 @@ earlier_stays true None e later = absurd (let f = later refl in cc)
 earlier_stays true (Some o) e later = cond-false (nat_lt (entry_at e) (entry_at o)) (Some e) (Some o) (later refl)
 earlier_stays false None e later = refl
 earlier_stays false (Some o) e later = refl
-
-pub equal_bytes : (xs ys : List ℕ) → bytes_eq xs ys ≡ true → xs ≡ ys
-equal_bytes xs ys same = grind (arith, bytes_eq-Decides xs ys)
 
 pub pins_added : (same : Bool) (old : Option (Vec Pin Global)) (d : Vec Pin Global) → (same ≡ true → old ≡ None) →
     pins_seen (cond same (Some d) old) ≡ or_first (pins_seen old) (cond same (Some d.items) None)

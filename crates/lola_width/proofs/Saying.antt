@@ -1,6 +1,8 @@
 -- The faults of assignments, told by their targets; the widths of places, told by powers of 2.
 use Rattle.std.proofs.Common.{◌≡◌, ◌≢◌, ◌⊎◌, ℕ, zero, suc, ◌≤◌, ◌^◌, Bool, true, false, cond, ◌||◌, nat_eq, bytes_eq, List, [], ◌∷◌, ◌++◌, Option, Some, None, inl, inr, refl, sym, ap, ◌∙◌, subst, arith}
-use Rattle.std.proofs.lemmas.Slice.Eq.{bytes_eq-Decides}
+use Rattle.lola_bits.proofs.Lists.{in_front, in_back, in_either}
+use Rattle.lola_bits.proofs.Names.{same_name, is_same_name}
+use Rattle.lola_bits.specs.Lists.{IsIn}
 use Rattle.lola_tree.specs.declared.named.Named.{Named}
 use Rattle.lola_tree.specs.declared.module.Way.{Way}
 use Rattle.lola_tree.specs.declared.module.Way.TheVariants.{Inward, Outward, Both}
@@ -10,33 +12,11 @@ use Rattle.lola_tree.specs.Tree.{ModuleTree}
 use Rattle.lola_tree.specs.Names.{Names}
 use Rattle.lola_tree.specs.Signals.{is_inward}
 use Rattle.lola_tree.specs.Width.{place_width}
-use Rattle.lola_tree.specs.Cycle.{IsIn}
 use Rattle.lola_width.specs.declared.fault.SourceFault.{SourceFault}
 use Rattle.lola_width.specs.declared.fault.SourceFault.TheVariants.{NotAssigned, AssignedTwice}
 use Rattle.lola_width.specs.Interface.{Seen}
 use Rattle.lola_width.specs.AssignmentFaults.{Taken, none_taken, taken_with, taken_with_all, again, twice, never_taken, port_never, ports_never, locals_never, body_targets, assignment_faults}
 use Rattle.lola_width.specs.Said.{HasTarget, IsSecondTarget, MustBeTarget, AreAssigned, NumbersElements}
-use Rattle.lola_width.proofs.Naming.{equal_bytes}
-
-pub in_front : {X : Type 0} (x : X) (xs ys : List X) → IsIn x xs → IsIn x (xs ++ ys)
-in_front x [] ys h = absurd h
-in_front x (z ∷ xs) ys (inl e) = inl e
-in_front x (z ∷ xs) ys (inr h) = inr (in_front x xs ys h)
-
-pub in_back : {X : Type 0} (x : X) (xs ys : List X) → IsIn x ys → IsIn x (xs ++ ys)
-in_back x [] ys h = h
-in_back x (z ∷ xs) ys h = inr (in_back x xs ys h)
-
-pub in_either : {X : Type 0} (x : X) (xs ys : List X) → IsIn x (xs ++ ys) → IsIn x xs ⊎ IsIn x ys
-in_either x [] ys h = inr h
-in_either x (z ∷ xs) ys (inl e) = inl (inl e)
-in_either x (z ∷ xs) ys (inr h) = further (in_either x xs ys h) where
-  further : IsIn x xs ⊎ IsIn x ys → IsIn x (z ∷ xs) ⊎ IsIn x ys
-  further (inl h) = inl (inr h)
-  further (inr h) = inr h
-
-pub same_bytes : (xs ys : List ℕ) → xs ≡ ys → bytes_eq xs ys ≡ true
-same_bytes xs ys e = grind (arith, bytes_eq-Decides xs ys, e)
 
 -- a name was taken before, or is one of these targets
 abbrev IsKnown : Taken → List Named → List ℕ → Type 0
@@ -45,11 +25,11 @@ IsKnown taken front name = (taken name ≡ true) ⊎ HasTarget name front
 taken_back : (taken : Taken) (one name : List ℕ) → taken_with taken one name ≡ true → (one ≡ name) ⊎ (taken name ≡ true)
 taken_back taken one name e = told (bytes_eq one name) refl where
   told : (b : Bool) → bytes_eq one name ≡ b → (one ≡ name) ⊎ (taken name ≡ true)
-  told true f = inl (equal_bytes one name f)
+  told true f = inl (is_same_name one name f)
   told false f = inr (sym (ap (λ b. b || taken name) f) ∙ e)
 
 taken_one : (taken : Taken) (one name : List ℕ) → one ≡ name → taken_with taken one name ≡ true
-taken_one taken one name e = ap (λ b. b || taken name) (same_bytes one name e)
+taken_one taken one name e = ap (λ b. b || taken name) (same_name one name e)
 
 taken_stays : (taken : Taken) (one name : List ℕ) → taken name ≡ true → taken_with taken one name ≡ true
 taken_stays taken one name e = told (bytes_eq one name) where

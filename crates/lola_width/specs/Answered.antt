@@ -1,7 +1,7 @@
 -- The fault that is answered, in words that don't speak of how it is found.
 use Rattle.std.specs.Prelude.{◌≡◌, ◌⊎◌, ◌↔◌, ◌<◌, Some, None}
+use Rattle.lola_bits.specs.Lists.{IsIn}
 use Rattle.lola_tree.specs.Tree.{SourceTree}
-use Rattle.lola_tree.specs.Cycle.{IsIn}
 use Rattle.lola_width.specs.declared.fault.SourceFault.{SourceFault}
 use Rattle.lola_width.specs.Order.{stage_of, place_of, row_of}
 use Rattle.lola_width.specs.Sized.{source_faults, IsWellSized, first_fault}

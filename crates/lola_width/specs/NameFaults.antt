@@ -14,6 +14,7 @@ use Rattle.lola_tree.specs.declared.module.LocalKind.TheVariants.{Reg, Var, Inst
 use Rattle.lola_tree.specs.declared.module.Local.{Local}
 use Rattle.lola_tree.specs.Tree.{Tree, number, whole, bit, slice, index, concat, negation, binary, choice, Parts, no_part, one_part, ActualTree, StmtTree, assignment, call, pad, ModuleTree}
 use Rattle.lola_tree.specs.Names.{Entry, port, constant, local, entry_name, entry_at, entry_shape, kind_shape, entries, earlier, Names, count_number, ref_name}
+use Rattle.lola_tree.specs.Signals.{is_outward}
 use Rattle.lola_tree.specs.Width.{checked_place}
 use Rattle.lola_width.specs.declared.fault.SourceFault.{SourceFault}
 use Rattle.lola_width.specs.declared.fault.SourceFault.TheVariants.{Doubled, Unknown, Kind, ArrayShape, Clock}
@@ -62,11 +63,6 @@ abbrev pub is_both : Way → Bool
 is_both Inward = false
 is_both Outward = false
 is_both Both = true
-
-abbrev pub is_outward : Way → Bool
-is_outward Inward = false
-is_outward Outward = true
-is_outward Both = false
 
 abbrev pub is_pad : Entry → Bool
 is_pad (port p) = is_both p.way

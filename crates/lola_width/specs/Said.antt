@@ -1,6 +1,7 @@
 -- What the faults of declarations and assignments are, in words that don't follow how they are listed; and the
 -- widths of places.
 use Rattle.std.specs.Prelude.{◌≡◌, ◌≢◌, ◌⊎◌, ◌↔◌, ◌≤◌, ◌^◌, ℕ, nat_lt, cond, List, ◌∷◌, ◌++◌, Some}
+use Rattle.lola_bits.specs.Lists.{IsIn}
 use Rattle.lola_tree.specs.declared.named.Named.{Named}
 use Rattle.lola_tree.specs.declared.module.Way.TheVariants.{Inward}
 use Rattle.lola_tree.specs.declared.module.Port.{Port}
@@ -8,7 +9,6 @@ use Rattle.lola_tree.specs.declared.module.Local.{Local}
 use Rattle.lola_tree.specs.Tree.{ModuleTree}
 use Rattle.lola_tree.specs.Names.{Entry, entry_name, entry_at, entries, Names}
 use Rattle.lola_tree.specs.Width.{place_width}
-use Rattle.lola_tree.specs.Cycle.{IsIn}
 use Rattle.lola_width.specs.declared.fault.SourceFault.TheVariants.{Doubled, NotAssigned, AssignedTwice}
 use Rattle.lola_width.specs.Interface.{Seen}
 use Rattle.lola_width.specs.NameFaults.{no_names, doubled_faults}

@@ -1,3 +1,18 @@
+//! The first fault of a source, found in one walk over its modules.
+//!
+//! The rules have three stages (names, widths, assignments), and a fault of an earlier stage comes first
+//! wherever it stands. The plain way is three walks that end at the first fault; but each of them needs the
+//! tables of names, which would have to be made three times or kept for all modules. Another is to gather
+//! all faults and sort them, which takes memory for each. Here the three stages of a module are checked one
+//! behind another while its table is at hand, and of the faults only the least so far is kept, by stage,
+//! place and kind (`note`). So the order in which rules are checked doesn't show in the answer, and what a
+//! function does to the least fault so far is told by the list of the faults that it looks for
+//! (`first_after`).
+//!
+//! It costs time near linear in the size of the source: each use of a name is one look-up in a hashed
+//! table, and the width of each expression is found once, from its parts upwards. Memory is for the names
+//! of the module at hand and the ports of the modules before it. A source with a fault in its names pays
+//! for the other stages too; it is a text that somebody is about to mend.
 ghost use Rattle.std.specs.Prelude.{◌≡◌, ◌≢◌, map, Some, IfOk, OnOk, IfErr};
 ghost use Rattle.lola_tree.specs.Tree.{module_tree, source_tree};
 ghost use Rattle.lola_width.specs.declared.fault.SourceFault.TheVariants.{Memory as NoMemory};

@@ -1,9 +1,10 @@
 use Rattle.std.proofs.Common.{◌≡◌, ℕ, cond, List, Some, None, sym, ap, ◌∙◌, bytes_eq, string_bytes, rules}
+use Rattle.lola_bits.proofs.Names.{is_same_name}
 use Rattle.indexmap.specs.IndexMap.{get_by_text}
 use Rattle.std.proofs.lemmas.Map.Text.{hash_map_updates_text}
 use Rattle.lola_width.specs.Interface.{or_first}
 use Rattle.lola_width.specs.Table.{pins_seen}
-use Rattle.lola_width.proofs.Naming.{pins_added, equal_bytes}
+use Rattle.lola_width.proofs.Naming.{pins_added}
 use Rattle.lola_width.proofs.interface.Modules.add.Goals as goal
 
 pub returns-in_ok-insert : goal.returns-in_ok-insert
@@ -11,6 +12,6 @@ returns-in_ok-insert c =
     let bs = string_bytes c.in_ok-name.name in
     let absent : get_by_text c.args.self.now.entries c.args.name.now ≡ None = search (rules, c.is_none.ensures, c.get.ensures.value, c.if-is_none.true) in
     let e = λ (q : List ℕ). ap pins_seen (hash_map_updates_text bs c.args.self.now.entries c.insert.new.self (Some c.args.pins) c.in_ok-insert.ensures.updates q)
-    ∙ pins_added (bytes_eq bs q) (get_by_text c.args.self.now.entries q) c.args.pins (λ same. ap (get_by_text c.args.self.now.entries) (sym (equal_bytes bs q same) ∙ c.in_ok-name.ensures.ok) ∙ absent)
+    ∙ pins_added (bytes_eq bs q) (get_by_text c.args.self.now.entries q) c.args.pins (λ same. ap (get_by_text c.args.self.now.entries) (sym (is_same_name bs q same) ∙ c.in_ok-name.ensures.ok) ∙ absent)
     ∙ ap (λ (n : List ℕ). or_first (pins_seen (get_by_text c.args.self.now.entries q)) (cond (bytes_eq n q) (Some c.args.pins.items) None)) c.in_ok-name.ensures.ok in
     λ i q. e q i
