@@ -1,12 +1,16 @@
 -- The values that nodes get in order solve their equations, and nothing else does.
-use Rattle.std.proofs.Common.{◌≡◌, ℕ, zero, suc, ◌+◌, ◌/◌, ◌%◌, ◌<◌, ◌≤◌, Bool, true, false, not, cond, ◌&&◌, List, [], ◌∷◌, ◌++◌, length, refl, sym, ap, ap₂, subst, ◌∙◌, arith, length-append}
+use Rattle.std.proofs.Common.{◌≡◌, ℕ, zero, suc, ◌+◌, ◌/◌, ◌%◌, ◌<◌, ◌≤◌, Bool, true, false, not, cond, ◌&&◌, List, [], ◌∷◌, ◌++◌, length, map, refl, sym, ap, ap₂, subst, ◌∙◌, arith, length-append}
 use Rattle.std.specs.Prelude.{nat_eq, nat_lt}
+use Rattle.std.specs.List.{AllByRecursion}
 use Rattle.std.proofs.lemmas.Bool.{and_parts, ltb-true, ltb-false}
 use Rattle.lola_net.specs.declared.node.Node.{Node}
 use Rattle.lola_net.specs.declared.node.Node.TheVariants.{Free, Latch, Pad, Gate}
-use Rattle.lola_net.specs.Literals.{at_place, at_node, literal_of}
-use Rattle.lola_net.specs.Run.{Sources, first, value_of, rest_of, values_after}
-use Rattle.lola_net.specs.Equations.{due_value, HoldFrom, uses_smaller, ordered_from, is_ordered, HasOneCycle}
+use Rattle.lola_net.specs.Literals.{at_place, at_node, literal_of, at_literal}
+use Rattle.lola_net.specs.declared.net.Net.{Net}
+use Rattle.lola_net.specs.declared.net.Cycle.{Cycle}
+use Rattle.lola_net.specs.Run.{Sources, first, value_of, rest_of, values_after, node_values, pad_bit, next_bit, picked}
+use Rattle.lola_net.specs.Equations.{due_value, HoldFrom, uses_smaller, ordered_from, is_ordered, HasOneCycle, NextWithin, IsFormed, pad_values, next_values, ShowsSolutions}
+use Rattle.lola_net.proofs.Steps.{values_long}
 
 place_before : (xs ys : List Bool) (n : ℕ) → n < length xs → at_place (xs ++ ys) n ≡ at_place xs n
 place_before [] ys n e = absurd (omega arith)
@@ -99,3 +103,48 @@ solved nodes s o = record {
     none : (v : ℕ → Bool) (k : ℕ) → k < 1 → v 0 ≡ false → v k ≡ at_node [] k
     none v zero e z = z
     none v (suc k) e z = absurd (omega arith)
+
+-- what a formed net shows
+literal_same : (v : ℕ → Bool) (values : List Bool) (count l : ℕ) → ((n : ℕ) → n ≤ count → v n ≡ at_node values n) → l / 2 ≤ count → at_literal values l ≡ literal_of v l
+literal_same v values count l same within = ap (λ b. cond (nat_eq (l % 2) 0) b (not b)) (sym (same (l / 2) within))
+
+outputs_same : (v : ℕ → Bool) (values : List Bool) (count : ℕ) → ((n : ℕ) → n ≤ count → v n ≡ at_node values n) → (outputs : List (List ℕ × ℕ)) → AllByRecursion (λ o. o.1 / 2 ≤ count) outputs →
+    map (λ o. at_literal values o.1) outputs ≡ map (λ o. literal_of v o.1) outputs
+outputs_same v values count same [] within = refl
+outputs_same v values count same (o ∷ outputs) within = ap₂ (λ b bs. b ∷ bs) (literal_same v values count o.1 same within.0) (outputs_same v values count same outputs within.1)
+
+pads_same : (v : ℕ → Bool) (n : ℕ) (xs : List Node) (ys : List Bool) → length ys ≡ length xs → ((k : ℕ) → k < length xs → v (n + k) ≡ at_place ys k) → picked pad_bit xs ys ≡ pad_values v n xs
+pads_same v n [] ys long same = refl
+pads_same v n (x ∷ xs) [] long same = absurd (omega arith)
+pads_same v n (x ∷ xs) (y ∷ ys) long same = by x (pads_same v (suc n) xs ys (omega arith) (λ k e. ap v (let f : suc n + k ≡ n + suc k = omega arith in f) ∙ same (suc k) (omega arith)))
+  where
+    here : y ≡ v n
+    here = sym (same 0 (omega arith)) ∙ ap v (let e : n + 0 ≡ n = omega arith in e)
+
+    by : (x : Node) → picked pad_bit xs ys ≡ pad_values v (suc n) xs → picked pad_bit (x ∷ xs) (y ∷ ys) ≡ pad_values v n (x ∷ xs)
+    by (Free name) later = later
+    by (Latch name next) later = later
+    by (Pad name value release) later = ap₂ (λ b bs. b ∷ bs) here later
+    by (Gate a b) later = later
+
+next_same : (v : ℕ → Bool) (values : List Bool) (count : ℕ) → ((n : ℕ) → n ≤ count → v n ≡ at_node values n) → (xs : List Node) (ys : List Bool) → length ys ≡ length xs → AllByRecursion (NextWithin count) xs →
+    picked (next_bit values) xs ys ≡ next_values v xs
+next_same v values count same [] ys long within = refl
+next_same v values count same (x ∷ xs) [] long within = absurd (omega arith)
+next_same v values count same (Free name ∷ xs) (y ∷ ys) long within = next_same v values count same xs ys (omega arith) within.1
+next_same v values count same (Latch name next ∷ xs) (y ∷ ys) long within = ap₂ (λ b bs. b ∷ bs) (literal_same v values count next same within.0) (next_same v values count same xs ys (omega arith) within.1)
+next_same v values count same (Pad name value release ∷ xs) (y ∷ ys) long within = next_same v values count same xs ys (omega arith) within.1
+next_same v values count same (Gate a b ∷ xs) (y ∷ ys) long within = next_same v values count same xs ys (omega arith) within.1
+
+abbrev shows : List Bool → List Bool → List Bool → Cycle
+shows outputs pads next = record { outputs = outputs; pads = pads; next = next }
+
+pub shows_solutions : (net : Net) → IsFormed net → ShowsSolutions net
+shows_solutions net formed state inputs outside v cycle =
+    let s : Sources = record { state = state; inputs = inputs; outside = outside } in
+    let values = node_values s net.nodes in
+    let long : length values ≡ length net.nodes = values_long s [] net.nodes ∙ (let e : 0 + length net.nodes ≡ length net.nodes = omega arith in e) in
+    let same = (solved net.nodes s formed.ordered).alone v cycle in
+    ap₂ (λ a b. shows a b (picked (next_bit values) net.nodes values)) (outputs_same v values (length net.nodes) same net.outputs formed.outputs)
+    (pads_same v 1 net.nodes values long (λ k e. same (1 + k) (omega arith) ∙ ap (at_node values) (let h : 1 + k ≡ suc k = omega arith in h))) ∙
+    ap (shows (map (λ o. literal_of v o.1) net.outputs) (pad_values v 1 net.nodes)) (next_same v values (length net.nodes) same net.nodes values long formed.next)
