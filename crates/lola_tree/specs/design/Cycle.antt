@@ -21,7 +21,8 @@ Suits names (shape.Vector width) x = FitsIn (vector_width names (Some (shape.Vec
 Suits names (shape.Array count width) x =
     (n : ℕ) → n < elements names (shape.Array count width) → FitsIn (element_width names (Some (shape.Array count width))) (x n)
 
--- two values of a type are the same: of a vector, or of an array element by element
+-- two values of a type are the same: of a vector, or of an array element by element, past its count too, where
+-- no well sized design reads
 abbrev pub AreSame : Shape → (ℕ → ℕ) → (ℕ → ℕ) → Type 0
 AreSame (shape.Vector width) x y = x 0 ≡ y 0
 AreSame (shape.Array count width) x y = (n : ℕ) → x n ≡ y n
@@ -58,11 +59,12 @@ pub record Run (S : SourceTree) (inputs : List Values) (s v : ℕ → Values) : 
   pub cycle : (c : ℕ) → c < length inputs → Cycle S (s c) (input_at inputs c) (v c)
   pub next : (c : ℕ) → c < length inputs → Next S (v c) (s (suc c))
 
--- a state and an input have one cycle: there is one, and any two agree on each signal but the clock. Behind a
--- cycle there is a state, and what stands behind any two is one and the same, and a state
+-- a state and an input have one cycle: there is one, its signals but the clock have values of their types, and any
+-- two agree on them. Behind a cycle there is a state, and what stands behind any two is one and the same, and a state
 pub record HasOneCycle (S : SourceTree) (s inp : Values) : Type 0 where
   pub cycle : (v : Values) × Cycle S s inp v
   pub same : (v w : Values) → Cycle S s inp v → Cycle S s inp w → (x : Signal) → IsIn x (signals S) → x.kind ≢ clock → AreSame x.type (v x.path) (w x.path)
+  pub fits : (v : Values) → Cycle S s inp v → (x : Signal) → IsIn x (signals S) → x.kind ≢ clock → Suits x.names x.type (v x.path)
   pub next : (v : Values) → Cycle S s inp v → (s' : Values) × Next S v s'
   pub same_next : (v w s' t' : Values) → Cycle S s inp v → Cycle S s inp w → Next S v s' → Next S w t' →
       (x : Signal) → IsSignal S register x → AreSame x.type (s' x.path) (t' x.path)

@@ -45,13 +45,14 @@ root_port names clocks p = record { path = p.name ∷ []; kind = root_kind p.way
 abbrev pub root_ports : Names → List (List ℕ) → List Port → List Signal
 root_ports names clocks ports = map (root_port names clocks) ports
 
--- the ports of an instance at a path, but its clock
+-- a port of an instance that is a signal: any but its clock
 abbrev pub shown_port : Way → Bool → Signal → List Signal
 shown_port Inward true x = []
 shown_port Inward false x = x ∷ []
 shown_port Outward is_clock x = x ∷ []
 shown_port Both is_clock x = x ∷ []
 
+-- the ports of an instance at a path
 abbrev pub instance_port : Names → List (List ℕ) → Path → Port → List Signal
 instance_port names clocks q p =
     shown_port p.way (is_among clocks p.name) (record { path = q ++ p.name ∷ []; kind = wire; names = names; type = p.shape })
