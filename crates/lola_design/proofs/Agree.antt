@@ -53,7 +53,7 @@ mutual
       (parts_agree scope v w behind (λ r there. names r (in_back r (names_in scope e) (part_names_in scope behind) there)) (λ r there. arrays r (in_back r (arrays_in e) (part_arrays_in behind) there)))
 
 -- at a path
-at_path : (m : ModuleTree) (p : Path) (v w : Values) (e : Tree) → ((y : Path) → IsIn y (paths_of p (names_in (scope_of m) e)) → v y 0 ≡ w y 0) → ((y : Path) → IsIn y (paths_of p (arrays_in e)) → (n : ℕ) → v y n ≡ w y n) →
+pub at_path : (m : ModuleTree) (p : Path) (v w : Values) (e : Tree) → ((y : Path) → IsIn y (paths_of p (names_in (scope_of m) e)) → v y 0 ≡ w y 0) → ((y : Path) → IsIn y (paths_of p (arrays_in e)) → (n : ℕ) → v y n ≡ w y n) →
     value (scope_of m) e (names_at p v) ≡ value (scope_of m) e (names_at p w)
 at_path m p v w e names arrays =
     value_agrees (scope_of m) (names_at p v) (names_at p w) e (λ r there. names (p ++ r.path) (to_map (λ (r : Ref). p ++ r.path) r (names_in (scope_of m) e) there))

@@ -3,3 +3,11 @@ pub mod Pads
 pub mod Counts
 pub mod Paths
 pub mod Stored
+pub mod Numbered
+pub mod OneSolution
+pub mod Graphs
+pub mod Found
+pub mod Derived
+pub mod Fits
+pub mod OneCycle
+pub mod NamedLoops

@@ -1,5 +1,5 @@
 -- The graph of the equations of a design, by the numbers of its signals.
-use Rattle.std.specs.Prelude.{ℕ, suc, if◌then◌else◌, List, [], ◌∷◌, map, Option, Some, None}
+use Rattle.std.specs.Prelude.{ℕ, suc, if◌then◌else◌, List, [], ◌∷◌, map, get_or, Option, Some, None}
 use Rattle.lola_tree.specs.Tree.{SourceTree}
 use Rattle.lola_tree.specs.Value.{Path}
 use Rattle.lola_tree.specs.design.Signals.{signal_paths}
@@ -29,3 +29,7 @@ graph_of E paths = map (λ (x : Path). uses_of paths (right_of E x)) paths
 -- for each signal of a design the numbers of those that occur in its equation
 abbrev pub design_graph : SourceTree → Graph
 design_graph S = graph_of (flat_equations S) (signal_paths S)
+
+-- the paths of some numbers
+abbrev pub paths_at : List Path → List ℕ → List Path
+paths_at paths numbers = map (λ (i : ℕ). get_or paths i []) numbers

@@ -38,9 +38,9 @@ update_paths u =
 abbrev pub update_arrays : Update → List Path
 update_arrays u = place_paths u.path (λ (e : Tree). paths_of u.path (arrays_in e)) u.place ++ paths_of u.path (arrays_in u.value)
 
--- what is read: as vectors signals but the clock that are vectors, and as arrays registers
+-- what is read: as vectors those signals but the clock that are vectors, and as arrays registers that are arrays
 pub record AreRead (S : SourceTree) (vectors arrays : List Path) : Type 0 where
-  pub vector : (y : Path) → IsIn y vectors → (x : Signal) × IsIn x (signals S) × (x.kind ≢ clock) × (x.path ≡ y)
+  pub vector : (y : Path) → IsIn y vectors → (x : Signal) × IsIn x (signals S) × (x.kind ≢ clock) × IsVector x.type × (x.path ≡ y)
   pub array : (y : Path) → IsIn y arrays → (x : Signal) × IsSignal S register x × IsArray x.type × (x.path ≡ y)
 
 -- a number fits what has this type, or each of its elements
@@ -67,5 +67,5 @@ pub record IsRegular (S : SourceTree) : Type 0 where
   pub vectors : (x : Signal) → IsIn x (signals S) → x.kind ≢ register → IsVector x.type
   pub equation_reads : (e : Equation) → IsIn e (flat_equations S) → AreRead S (right_paths e.right) (right_arrays e.right)
   pub update_reads : (u : Update) → IsIn u (updates S) → AreRead S (update_paths u) (update_arrays u)
-  pub update_places : (u : Update) → IsIn u (updates S) → (x : Signal) → IsIn x (signals S) → x.path ≡ u.left → IsArray x.type → IsSome u.place
+  pub array_places : (u : Update) → IsIn u (updates S) → (x : Signal) → IsIn x (signals S) → x.path ≡ u.left → IsArray x.type → IsSome u.place
   pub values : ValuesFit S

@@ -11,4 +11,4 @@
 
 mod laws;
 
-pub use laws::{one_equation, one_path, one_update, resolved_pads};
+pub use laws::{loops, one_cycle, one_equation, one_path, one_update, resolved_pads};
