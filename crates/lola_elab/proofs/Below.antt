@@ -1,16 +1,15 @@
 -- Values are below 2 to their widths.
 use Rattle.std.proofs.Common.{◌≡◌, ℕ, zero, suc, ◌+◌, ◌-◌, ◌*◌, ◌/◌, ◌%◌, ◌^◌, ◌<◌, ◌≤◌, Bool, true, false, cond, not, Option, Some, None, sym, ◌∙◌, ap, ap₂, subst, arith, inl, inr}
 use Rattle.std.specs.Prelude.{nat_eq, nat_lt, bit_and}
-use Rattle.std.proofs.lemmas.Bool.{cases_Bool}
-use Rattle.std.proofs.lemmas.Nat.{shr_below, and_le_l, pow_pos, pow-add, mul-add-lt}
-use Rattle.std.proofs.lemmas.Bool.Decides.{nat_tests}
+use Rattle.std.proofs.lemmas.Nat.{and_le_l, pow_pos}
 use Rattle.std.proofs.Math.Nat.{div-le_self, add_comm}
 use Rattle.lola_bits.specs.declared.op.Op.{Op}
 use Rattle.lola_bits.specs.declared.op.Op.TheVariants as op
 use Rattle.lola_bits.specs.Number.{bit_at, slice_of, joined, inverted, operate, moved_filled}
 use Rattle.lola_bits.specs.Number as bits
 use Rattle.lola_bits.specs.Vector.{FitsWidth}
-use Rattle.lola_bits.proofs.Numbers.{or_fits, xor_fits, filled_below, all_filled}
+use Rattle.lola_bits.proofs.Numbers.{or_fits, xor_fits, filled_fits, joined_below}
+use Rattle.lola_bits.proofs.Options.{some_same, nothing}
 use Rattle.lola_tree.specs.declared.named.Ref.{Ref}
 use Rattle.lola_tree.specs.Tree.{Tree, number, whole, bit, slice, index, concat, negation, binary, choice, Parts, no_part, one_part}
 use Rattle.lola_tree.specs.Width.{Scope as Widths, width, total_width, same_width, defined_width, bit_width, repeated_width, operator_width}
@@ -18,39 +17,12 @@ use Rattle.lola_tree.specs.Value.{value, value_of_parts, or_zero, or_read, repea
 use Rattle.lola_elab.specs.Small.{IsBuilt, AreBuilt}
 use Rattle.lola_elab.proofs.Widths.{checked_is, number_in, same_is, defined_is, bit_is, slice_is, operator_parts, operator_narrow, repeated_is, joined_is}
 
-some_same : (x y : ℕ) → Some x ≡ Some y → x ≡ y
-some_same x y e = cc
-
-nothing : {T : Type 0} (y : ℕ) → None ≡ Some y → T
-nothing y e = absurd cc
-
 mod_below : (x w : ℕ) → x % 2 ^ w < 2 ^ w
 mod_below x w = let h = pow_pos w in omega arith
 
 bit_below : (b : Bool) → bits.number b < 2 ^ 1
 bit_below true = omega arith
 bit_below false = omega arith
-
-top_times : (t p q : ℕ) → t < 2 → p < q → t * p < q
-top_times zero p q low less = omega arith
-top_times (suc zero) p q low less = omega arith
-top_times (suc (suc t)) p q low less = absurd (omega arith)
-
-filled_fits : (x w n : ℕ) → FitsWidth w x → moved_filled w x n < 2 ^ w
-filled_fits x w n fits = elim (cases_Bool (nat_lt w n)) [
-  | inl far ↦
-      let whole : 1 + (w - 1) ≡ w = let p : 1 ≤ w = fits.positive in omega arith in
-      let top : x / 2 ^ (w - 1) < 2 ^ 1 = shr_below x 1 (w - 1) (subst (λ (k : ℕ). x < 2 ^ k) (sym whole) fits.below) in
-      let less : 2 ^ w - 1 < 2 ^ w = let h = pow_pos w in omega arith in
-      subst (λ (y : ℕ). y < 2 ^ w) (sym (all_filled x w n fits (far_from w n far))) (top_times (x / 2 ^ (w - 1)) (2 ^ w - 1) (2 ^ w) (omega arith) less)
-  | inr near ↦ filled_below x w n fits (near_to w n near)
-]
-  where
-    far_from : (w n : ℕ) → nat_lt w n ≡ true → w ≤ n
-    far_from w n e = grind (arith, nat_tests)
-
-    near_to : (w n : ℕ) → nat_lt w n ≡ false → n ≤ w
-    near_to w n e = grind (arith, nat_tests)
 
 -- what an operator makes of numbers that fit, in its width
 kept : (w u : ℕ) (x : ℕ) → Some w ≡ Some u → x < 2 ^ w → x < 2 ^ u
@@ -82,14 +54,11 @@ operate_below op.Shr w v u x y e fx fy = let h = div-le_self x (2 ^ y) in let b 
 operate_below op.Asr w v u x y e fx fy = kept w u (operate op.Asr w x y) e (filled_fits x w y fx)
 operate_below op.Ror w v u x y e fx fy = kept w u (operate op.Ror w x y) e (mod_below (x / 2 ^ (y % w) + x * 2 ^ (w - y % w)) w)
 
-join_below : (x v y w : ℕ) → x < 2 ^ v → y < 2 ^ w → joined x w y < 2 ^ (v + w)
-join_below x v y w below low = subst (λ (k : ℕ). joined x w y < 2 ^ k) (add_comm w v) (rw (pow-add 2 w v) (mul-add-lt x (2 ^ w) y (2 ^ v) below low))
-
 repeat_below : (n w x : ℕ) → x < 2 ^ w → repeated n w x < 2 ^ (n * w)
 repeat_below zero w x below = let z : 0 * w ≡ 0 = omega arith in subst (λ (k : ℕ). 0 < 2 ^ k) (sym z) (omega arith)
 repeat_below (suc n) w x below =
     let z : n * w + w ≡ suc n * w = omega arith in
-    subst (λ (k : ℕ). repeated (suc n) w x < 2 ^ k) z (join_below (repeated n w x) (n * w) x w (repeat_below n w x below) below)
+    subst (λ (k : ℕ). repeated (suc n) w x < 2 ^ k) z (joined_below (repeated n w x) (n * w) x w (repeat_below n w x below) below)
 
 place_one : (place width : Option ℕ) (w : ℕ) → bit_width place width ≡ Some w → w ≡ 1
 place_one None width w e = nothing w e
@@ -163,7 +132,7 @@ mutual
       let part = value_fits P scope read fit e is.0 r.0 r.2 in
       let more = parts_fit P scope read fit behind is.1 j.1 j.3 in
       let size : r.1 * r.0 + j.1 ≡ w = ap (λ (k : ℕ). k + j.1) (sym r.5) ∙ sym j.4 in
-      let all = join_below (repeated r.1 r.0 (value scope e read)) (r.1 * r.0) (value_of_parts scope behind read) j.1 (repeat_below r.1 r.0 (value scope e read) part.below) more in
+      let all = joined_below (repeated r.1 r.0 (value scope e read)) (r.1 * r.0) (value_of_parts scope behind read) j.1 (repeat_below r.1 r.0 (value scope e read) part.below) more in
       let sized = subst (λ (k : ℕ). joined (repeated r.1 r.0 (value scope e read)) j.1 (value_of_parts scope behind read) < 2 ^ k) size all in
       subst (λ (n : ℕ). n < 2 ^ w)
       (ap₂ (λ (a b : Option ℕ). joined (repeated (or_zero a) (or_zero b) (value scope e read)) j.1 (value_of_parts scope behind read)) (sym r.3) (sym r.2)

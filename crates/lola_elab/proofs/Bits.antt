@@ -1,6 +1,8 @@
 -- The next state of a small design is a state: values stay below 2 to their widths.
 use Rattle.std.proofs.Common.{◌≡◌, ℕ, ◌<◌, ◌^◌, List, [], ◌∷◌, Option, Some, None, sym, ◌∙◌, ap, subst, inl, inr}
 use Rattle.lola_bits.specs.Vector.{FitsWidth}
+use Rattle.lola_bits.proofs.All.{of_all}
+use Rattle.lola_bits.proofs.Lists.{from_map}
 use Rattle.lola_tree.specs.declared.named.Ref.{Ref}
 use Rattle.lola_tree.specs.declared.named.Shape.{Shape}
 use Rattle.lola_tree.specs.declared.named.Shape.TheVariants as shape
@@ -11,7 +13,6 @@ use Rattle.lola_tree.specs.Width.{vector_width, entry_width, scope_of}
 use Rattle.lola_tree.specs.Value.{Path, Values, or_read}
 use Rattle.lola_tree.specs.Cycle.{IsRoot, IsRegisterOf, IsRegister, IsInputOf, IsInput, FitsIn, Suits, IsState, IsGiven, names_at, Cycle, Next, NextBy}
 use Rattle.lola_elab.specs.Small.{IsLeaf, IsSmallStmt, target_of, IsSmallModule, IsSmallSource}
-use Rattle.lola_elab.proofs.Lists.{of_all, from_map}
 use Rattle.lola_elab.proofs.Entries.{port_named, const_named, local_named}
 use Rattle.lola_elab.proofs.Roots.{root_is}
 use Rattle.lola_elab.proofs.Widths.{checked_is, number_in}

@@ -3,6 +3,9 @@ use Rattle.std.proofs.Common.{◌≡◌, ℕ, ◌+◌, ◌≤◌, Bool, not, ◌
 use Rattle.std.specs.List.{AllByRecursion}
 use Rattle.std.proofs.lemmas.Bool.{cases_Bool}
 use Rattle.std.proofs.lemmas.List.{length-map}
+use Rattle.lola_bits.proofs.Lists.{filter_few}
+use Rattle.lola_bits.specs.Names.{is_among}
+use Rattle.lola_bits.specs.Lists.{AreDistinct}
 use Rattle.lola_tree.specs.declared.named.Shape.{Shape}
 use Rattle.lola_tree.specs.declared.named.Shape.TheVariants as shape
 use Rattle.lola_tree.specs.declared.module.Port.{Port}
@@ -11,9 +14,9 @@ use Rattle.lola_tree.specs.declared.module.Local.{Local}
 use Rattle.lola_tree.specs.Tree.{ModuleTree}
 use Rattle.lola_tree.specs.Names.{entry_name, entries}
 use Rattle.lola_tree.specs.Width.{checked_width}
-use Rattle.lola_tree.specs.Signals.{is_inward, is_among}
+use Rattle.lola_tree.specs.Signals.{is_inward}
 use Rattle.lola_elab.specs.declared.vector.Vector.{Vector}
-use Rattle.lola_elab.specs.Small.{Wide, wide_in, IsSmallConst, AreDistinct}
+use Rattle.lola_elab.specs.Small.{Wide, wide_in, IsSmallConst}
 use Rattle.lola_elab.specs.Declares.{Sized, sized, sized_port, sized_local, inputs_under, wide_of, const_entry, port_names, const_names, local_names}
 use Rattle.lola_elab.specs.Meanings.{Meanings}
 use Rattle.lola_elab.specs.Tables.{updated}
@@ -35,21 +38,11 @@ pub constants_wide : (m : ModuleTree) (names : Meanings) (consts : List Const) �
 constants_wide m names consts distinct fit same is =
     wides_are m names distinct (const_table m names fit (subst (λ (ks : List Const). (q : List ℕ) → names q ≡ updated (map const_entry ks) q None) same is))
 
--- there are not more inputs and registers than ports and locals
-kept_few : {X : Type 0} (test : X → Bool) (xs : List X) → length (filter test xs) ≤ length xs
-kept_few test [] = omega arith
-kept_few test (x ∷ xs) =
-    let h = kept_few test xs in
-    elim (cases_Bool (test x)) [
-      | inl kept ↦ rw kept (omega arith)
-      | inr dropped ↦ rw dropped (omega arith)
-    ]
-
 pub few_vectors : (wide : Wide) (clock : List (List ℕ)) (ports : List Port) (locals : List Local) (inputs registers : List Vector) → map sized inputs ≡ inputs_under wide clock ports →
     map sized registers ≡ map (sized_local wide) locals → length ports + length locals ≤ 65536 → length inputs + length registers ≤ 65536
 few_vectors wide clock ports locals inputs registers i r few =
     let a : length inputs ≡ length (inputs_under wide clock ports) = sym (length-map inputs sized) ∙ ap (λ (l : List Sized). length l) i in
     let b : length registers ≡ length locals = sym (length-map registers sized) ∙ ap (λ (l : List Sized). length l) r ∙ length-map locals (sized_local wide) in
     let c = length-map (filter (λ (p : Port). is_inward p.way && not (is_among clock p.name)) ports) (sized_port wide) in
-    let d = kept_few (λ (p : Port). is_inward p.way && not (is_among clock p.name)) ports in
+    let d = filter_few (λ (p : Port). is_inward p.way && not (is_among clock p.name)) ports in
     omega (arith, a, b, c, d)

@@ -2,14 +2,14 @@
 use Rattle.std.proofs.Common.{◌≡◌, ◌≢◌, ℕ, List, [], ◌∷◌, ◌++◌, map, Some, None, refl, sym, ◌∙◌, ap, ap₂, subst, inl, inr}
 use Rattle.std.specs.Prelude.{bytes_eq}
 use Rattle.std.proofs.lemmas.Bool.{cond-true, cond-false}
+use Rattle.lola_bits.specs.Lists.{IsIn, AreDistinct}
+use Rattle.lola_bits.proofs.Lists.{to_map, in_front, in_back}
+use Rattle.lola_bits.proofs.Names.{same_name, other_name}
 use Rattle.lola_tree.specs.declared.module.Port.{Port}
 use Rattle.lola_tree.specs.declared.module.Const.{Const}
 use Rattle.lola_tree.specs.declared.module.Local.{Local}
 use Rattle.lola_tree.specs.Tree.{ModuleTree}
 use Rattle.lola_tree.specs.Names.{Entry, port, constant, local, entry_name, entries, earlier, first_named, names_of}
-use Rattle.lola_tree.specs.Cycle.{IsIn}
-use Rattle.lola_elab.specs.Small.{AreDistinct}
-use Rattle.lola_elab.proofs.Lists.{to_map, in_front, in_back, same_name, other_name}
 
 -- a name that isn't among the declared stands for nothing
 none_named : (es : List Entry) (name : List ℕ) → (IsIn name (map entry_name es) → ⊥) → first_named es name ≡ None

@@ -6,23 +6,19 @@ use Rattle.std.proofs.lemmas.List.{length-append, length-take, length-drop}
 use Rattle.lola_bits.specs.declared.op.Op.{Op}
 use Rattle.lola_bits.specs.declared.op.Op.TheVariants as op
 use Rattle.lola_bits.specs.Number.{slice_of, joined, inverted, operate, number}
+use Rattle.lola_bits.proofs.Options.{some_same, nothing}
+use Rattle.lola_bits.specs.BitLists.{number_of}
+use Rattle.lola_bits.proofs.BitLists.{pow_more, number_append, number_take, number_drop}
+use Rattle.lola_bits.proofs.Tests.{chosen}
 use Rattle.lola_tree.specs.Width.{checked_width, same_width, operator_width, repeated_width, joined_width}
 use Rattle.lola_tree.specs.Value.{or_zero, repeated}
-use Rattle.lola_alg.specs.Means.{number_of, IsWidth, Suits, op_width, op_works, op_number, AreKnown, number_at, MeansOp}
+use Rattle.lola_alg.specs.Means.{IsWidth, Suits, op_width, op_works, op_number, AreKnown, number_at, MeansOp}
 use Rattle.lola_alg.specs.Plain.{plain_meaning}
-use Rattle.lola_alg.proofs.Bools.{pow_more}
-use Rattle.lola_elab.proofs.BitNumbers.{number_append, number_take, number_drop}
 use Rattle.lola_elab.specs.declared.flat.Flat.{Flat}
 use Rattle.lola_elab.specs.declared.flat.Flat.TheVariants.{Number, Leaf, Slice', Join', Repeat', Not', Both', Choice'}
 use Rattle.lola_elab.specs.Flat.{flat_width, flat_number, HasWidth, PartsHaveWidths}
 use Rattle.lola_elab.specs.Evaluated.{IsNumber, IsEvaluated}
-use Rattle.lola_elab.proofs.Widths.{is_below, equal_is, chosen, checked_is, same_is, defined_is, slice_is, operator_parts, repeated_is, repeated_of, joined_is}
-
-some_same : (x y : ℕ) → Some x ≡ Some y → x ≡ y
-some_same x y e = cc
-
-nothing : {T : Type 0} (y : ℕ) → None ≡ Some y → T
-nothing y e = absurd cc
+use Rattle.lola_elab.proofs.Widths.{is_below, equal_is, checked_is, same_is, defined_is, slice_is, operator_parts, repeated_is, repeated_of, joined_is}
 
 -- numbers bit by bit
 pub all_bits : (bits : List Bool) (width rest value : ℕ) → length bits ≡ width → number_of bits + 2 ^ length bits * rest ≡ value → value < 2 ^ width → IsNumber bits width value

@@ -5,6 +5,8 @@ use Rattle.std.specs.Prelude.{nat_eq, nat_lt}
 use Rattle.lola_bits.specs.declared.op.Op.{Op}
 use Rattle.lola_bits.specs.Vector.{FitsWidth}
 use Rattle.lola_bits.specs.Number.{bit_at, slice_of, inverted, operate}
+use Rattle.lola_bits.proofs.Options.{some_same}
+use Rattle.lola_bits.proofs.Tests.{chosen_yes}
 use Rattle.lola_tree.specs.declared.named.Count.{Count}
 use Rattle.lola_tree.specs.declared.named.Ref.{Ref}
 use Rattle.lola_tree.specs.Tree.{Tree, number, whole, bit, slice, negation, binary, choice}
@@ -16,10 +18,7 @@ use Rattle.lola_elab.specs.declared.meaning.Meaning.{Meaning}
 use Rattle.lola_elab.specs.declared.meaning.Meaning.TheVariants as meaning
 use Rattle.lola_elab.specs.Flat.{flat_width, flat_number}
 use Rattle.lola_elab.specs.Meanings.{Meanings, path_meaning, meaning_of, IsVector, count_of, HasMeaning, AreVectors, NotBelow, IsFlatOf, HasNoFlat}
-use Rattle.lola_elab.proofs.Widths.{below_is, chosen_yes, width_checked, number_in, same_is, same_self, defined_is, bit_is, bit_within, slice_is, slice_within, operator_narrow}
-
-some_same : (x y : ℕ) → Some x ≡ Some y → x ≡ y
-some_same x y e = cc
+use Rattle.lola_elab.proofs.Widths.{below_is, width_checked, number_in, same_is, same_self, defined_is, bit_is, bit_within, slice_is, slice_within, operator_narrow}
 
 -- a written number
 pub number_is : (names : Meanings) (v : ℕ) (written : Option ℕ) (at w : ℕ) → number_width v written ≡ Some w → IsFlatOf names (number v written at) (Number w v) w

@@ -1,6 +1,8 @@
 -- The parts of a concatenation over leaves.
 use Rattle.std.proofs.Common.{◌≡◌, ℕ, zero, suc, ◌+◌, ◌*◌, ◌<◌, ◌≤◌, List, [], ◌∷◌, length, get_or, drop, Option, Some, None, refl, sym, ◌∙◌, ap, ap₂, subst, arith}
 use Rattle.lola_bits.specs.Number.{joined}
+use Rattle.lola_bits.proofs.Options.{some_same}
+use Rattle.lola_bits.proofs.Places.{drop_item}
 use Rattle.lola_tree.specs.declared.named.Count.{Count}
 use Rattle.lola_tree.specs.declared.expr.Part.{Part}
 use Rattle.lola_tree.specs.Tree.{Tree, Parts, no_part, one_part, concat, parts_tree, tree}
@@ -10,11 +12,7 @@ use Rattle.lola_elab.specs.declared.flat.Flat.{Flat}
 use Rattle.lola_elab.specs.declared.flat.Flat.TheVariants.{Number}
 use Rattle.lola_elab.specs.Flat.{flat_width, flat_number}
 use Rattle.lola_elab.specs.Meanings.{Meanings, count_of, IsFlatOf, HasNoFlat, ArePartsFlat, HaveNoFlat}
-use Rattle.lola_elab.proofs.Steps.{drop_item}
 use Rattle.lola_elab.proofs.Widths.{checked_is, width_checked, repeated_is, repeated_of, joined_is}
-
-some_same : (x y : ℕ) → Some x ≡ Some y → x ≡ y
-some_same x y e = cc
 
 pub none_flat : (names : Meanings) → ArePartsFlat names no_part (Number 0 0) 0
 none_flat names = record {

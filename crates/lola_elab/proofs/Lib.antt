@@ -1,4 +1,3 @@
-mod FaultLists
 mod SizedBody
 mod SizedClock
 mod SizedNames
@@ -12,15 +11,12 @@ pub mod Entries
 pub mod Evaluates
 pub mod FlatMeans
 pub mod FlatParts
-pub mod Lists
 pub mod Names
 pub mod NewNames
 pub mod OneCycle
 pub mod Roots
 pub mod Statements
-pub mod Steps
 pub mod Tables
 pub mod WellDeclared
 pub mod Whole
 pub mod Widths
-mod BitNumbers

@@ -1,6 +1,10 @@
 -- The names of a module by what they stand for.
 use Rattle.std.proofs.Common.{◌≡◌, ℕ, true, false, not, ◌&&◌, List, [], ◌∷◌, ◌++◌, refl, sym, ◌∙◌, ap, subst, inl, inr}
 use Rattle.std.proofs.lemmas.Bool.{false≢true, and_parts, and_from, not-true, not_from_false}
+use Rattle.lola_bits.specs.Lists.{IsIn, AreDistinct}
+use Rattle.lola_bits.specs.Names.{is_among}
+use Rattle.lola_bits.proofs.Lists.{to_map, from_map, in_filter, from_filter, in_front, in_back, in_either, same_item, distinct_front, distinct_back, apart}
+use Rattle.lola_bits.proofs.Names.{among, not_among}
 use Rattle.lola_tree.specs.declared.named.Named.{Named}
 use Rattle.lola_tree.specs.declared.named.Shape.{Shape}
 use Rattle.lola_tree.specs.declared.module.Way.{Way}
@@ -10,12 +14,11 @@ use Rattle.lola_tree.specs.declared.module.LocalKind.{LocalKind}
 use Rattle.lola_tree.specs.declared.module.LocalKind.TheVariants.{Reg, Var, Inst}
 use Rattle.lola_tree.specs.declared.module.Local.{Local}
 use Rattle.lola_tree.specs.Tree.{ModuleTree}
-use Rattle.lola_tree.specs.Cycle.{IsIn, IsRegisterOf, IsInputOf}
-use Rattle.lola_tree.specs.Signals.{clock_of, clock_names, is_inward, is_among, input_names, name_of_register, register_names}
+use Rattle.lola_tree.specs.Cycle.{IsRegisterOf, IsInputOf}
+use Rattle.lola_tree.specs.Signals.{clock_of, clock_names, is_inward, input_names, name_of_register, register_names}
 use Rattle.lola_tree.specs.declared.module.Const.{Const}
-use Rattle.lola_elab.specs.Small.{IsTarget, AreDistinct}
+use Rattle.lola_elab.specs.Small.{IsTarget}
 use Rattle.lola_elab.specs.Declares.{port_names, const_names, local_names}
-use Rattle.lola_elab.proofs.Lists.{to_map, from_map, in_filter, from_filter, in_front, in_back, in_either, among, not_among, same_item, distinct_front, distinct_back, apart}
 
 -- a local that is a register, by its name
 pub record IsRegisterIn (locals : List Local) (name : List ℕ) : Type 0 where

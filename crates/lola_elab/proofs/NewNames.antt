@@ -2,10 +2,9 @@
 use Rattle.std.proofs.Common.{◌≡◌, ◌↔◌, ℕ, ◌+◌, ◌<◌, Bool, true, false, ◌||◌, List, ◌∷◌, length, get_or, drop, refl, sym, ◌∙◌, ap, subst, inl, inr}
 use Rattle.std.specs.Prelude.{bytes_eq}
 use Rattle.std.proofs.lemmas.Bool.{false≢true, or_left, or_parts, or_from}
-use Rattle.lola_tree.specs.Cycle.{IsIn}
-use Rattle.lola_elab.specs.Small.{AreDistinct}
-use Rattle.lola_elab.proofs.Lists.{same_name, other_name}
-use Rattle.lola_elab.proofs.Steps.{drop_item}
+use Rattle.lola_bits.specs.Lists.{IsIn, AreDistinct}
+use Rattle.lola_bits.proofs.Names.{same_name, other_name}
+use Rattle.lola_bits.proofs.Places.{drop_item}
 
 -- distinct names that aren't in a set
 pub record AreNew (old : List ℕ → Bool) (names : List (List ℕ)) : Type 0 where

@@ -2,6 +2,11 @@
 use Rattle.std.proofs.Common.{◌≡◌, ◌≢◌, ℕ, true, false, cond, List, [], ◌∷◌, map, Option, Some, None, refl, sym, ◌∙◌, ap, ap₂, subst, inl, inr}
 use Rattle.std.specs.Prelude.{bytes_eq, nat_eq}
 use Rattle.std.proofs.lemmas.Bool.{cond-true, cond-false}
+use Rattle.lola_bits.specs.Lists.{IsIn, AreDistinct}
+use Rattle.lola_bits.specs.Names.{is_among}
+use Rattle.lola_bits.proofs.All.{of_all}
+use Rattle.lola_bits.proofs.Lists.{to_map, from_map}
+use Rattle.lola_bits.proofs.Names.{same_name, other_name, among, not_among}
 use Rattle.lola_tree.specs.declared.named.Ref.{Ref}
 use Rattle.lola_tree.specs.declared.named.Shape.{Shape}
 use Rattle.lola_tree.specs.declared.module.Const.{Const}
@@ -11,13 +16,12 @@ use Rattle.lola_tree.specs.Tree.{Tree, number, whole, bit, slice, index, concat,
 use Rattle.lola_bits.specs.Number.{bit_at, slice_of, joined, inverted, operate}
 use Rattle.lola_tree.specs.Width.{Scope as Widths, width, total_width, scope_of}
 use Rattle.lola_tree.specs.Value.{Path, Values, value, value_of_parts, or_zero, or_read, repeated}
-use Rattle.lola_tree.specs.Cycle.{IsIn, IsRoot, IsRegisterOf, IsRegister, IsInputOf, IsInput, IsState, IsGiven, names_at, Equation, Cycle, Next, NextBy}
-use Rattle.lola_tree.specs.Signals.{is_among, register_names, IsSignal, register, input, output}
-use Rattle.lola_elab.specs.Small.{IsBuilt, AreBuilt, IsLeaf, IsReadable, IsTarget, IsSmallStmt, target_of, AreDistinct, IsSmallModule, IsSmallSource}
+use Rattle.lola_tree.specs.Cycle.{IsRoot, IsRegisterOf, IsRegister, IsInputOf, IsInput, IsState, IsGiven, names_at, Equation, Cycle, Next, NextBy}
+use Rattle.lola_tree.specs.Signals.{register_names, IsSignal, register, input, output}
+use Rattle.lola_elab.specs.Small.{IsBuilt, AreBuilt, IsLeaf, IsReadable, IsTarget, IsSmallStmt, target_of, IsSmallModule, IsSmallSource}
 use Rattle.lola_elab.specs.Elaborated.{HasOneCycle}
 use Rattle.lola_elab.proofs.Bits.{next_state}
 use Rattle.lola_elab.proofs.Roots.{root_is}
-use Rattle.lola_elab.proofs.Lists.{of_all, to_map, from_map, same_name, other_name, among, not_among}
 use Rattle.lola_elab.proofs.Names.{is_register, register_listed, all_names, input_no_target, output_no_register}
 use Rattle.lola_elab.proofs.Entries.{const_named, entry_names}
 

@@ -2,6 +2,11 @@
 use Rattle.std.proofs.Common.{◌≡◌, ℕ, Bool, true, false, cond, List, [], ◌∷◌, ◌++◌, map, Option, Some, None, refl, sym, ap, ◌∙◌, subst, inl, inr, ◌⊎◌}
 use Rattle.std.specs.Prelude.{bytes_eq, ◌||◌}
 use Rattle.std.specs.List.{AllByRecursion}
+use Rattle.lola_bits.proofs.Tests.{or_neither, none_unless, none_where}
+use Rattle.lola_bits.specs.Lists.{IsIn, AreDistinct}
+use Rattle.lola_bits.proofs.All.{of_all}
+use Rattle.lola_bits.proofs.Names.{same_name, is_same_name}
+use Rattle.lola_bits.proofs.Lists.{in_either, from_map, both_none}
 use Rattle.lola_tree.specs.declared.named.Named.{Named}
 use Rattle.lola_tree.specs.declared.named.Shape.{Shape}
 use Rattle.lola_tree.specs.declared.named.Shape.TheVariants as shape
@@ -14,19 +19,16 @@ use Rattle.lola_tree.specs.declared.module.Local.{Local}
 use Rattle.lola_tree.specs.Tree.{StmtTree, assignment, call, pad, ModuleTree}
 use Rattle.lola_tree.specs.Names.{Entry, port, constant, local, entries, Names, names_of, kind_shape}
 use Rattle.lola_tree.specs.Width.{vector_width, entry_width, scope_of, width}
-use Rattle.lola_tree.specs.Signals.{is_inward}
-use Rattle.lola_tree.specs.Cycle.{IsIn}
+use Rattle.lola_tree.specs.Signals.{is_inward, is_outward}
 use Rattle.lola_width.specs.declared.uses.Use.{Use}
 use Rattle.lola_width.specs.declared.uses.Use.TheVariants as use_
 use Rattle.lola_width.specs.Interface.{Seen}
-use Rattle.lola_width.specs.NameFaults.{suits, use_faults, is_array, is_vector, is_outward, is_both, is_pad, is_instance, is_instance_kind, assigned_shape, expr_faults, stmt_faults, body_faults}
+use Rattle.lola_width.specs.NameFaults.{suits, use_faults, is_array, is_vector, is_both, is_pad, is_instance, is_instance_kind, assigned_shape, expr_faults, stmt_faults, body_faults}
 use Rattle.lola_width.specs.WidthFaults.{differ, name_width, expr_widths, stmt_widths, body_widths}
 use Rattle.lola_width.specs.AssignmentFaults.{Taken, taken_with, taken_with_all, again, twice, never_taken, port_never, ports_never, locals_never, body_targets}
-use Rattle.lola_elab.specs.Small.{AreDistinct, wide_in, IsSmallPort, IsSmallKind, IsTarget, IsSmallStmt, target_of}
+use Rattle.lola_elab.specs.Small.{wide_in, IsSmallPort, IsSmallKind, IsTarget, IsSmallStmt, target_of}
 use Rattle.lola_elab.specs.Built.{IsPlain, IsPlainKind, IsBuiltStmt}
-use Rattle.lola_elab.proofs.Lists.{of_all, same_name, is_same_name, in_either, from_map}
 use Rattle.lola_elab.proofs.Tables.{first_in}
-use Rattle.lola_elab.proofs.FaultLists.{both_none, none_unless, none_where}
 use Rattle.lola_elab.proofs.SizedNames.{true_and_false}
 use Rattle.lola_elab.proofs.SizedClock.{port_in}
 use Rattle.lola_elab.proofs.SizedValues.{Known, AreVectors, port_wide, register_wide, same_known, value_known}
@@ -163,10 +165,6 @@ targets_are m seen (assignment name None e at equals ∷ ts) small = ap (λ (ns 
 targets_are m seen (assignment name (Some place) e at equals ∷ ts) small = absurd small.0
 targets_are m seen (call name args at ∷ ts) small = absurd small.0
 targets_are m seen (pad io inner value release at ∷ ts) small = absurd small.0
-
-or_neither : (a b : Bool) → (a || b) ≡ false → (a ≡ false) × (b ≡ false)
-or_neither false b e = (refl, e)
-or_neither true b e = absurd (cc)
 
 or_one : (a b : Bool) → (a || b) ≡ true → (a ≡ true) ⊎ (b ≡ true)
 or_one false b e = inr e

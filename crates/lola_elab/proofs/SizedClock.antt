@@ -1,6 +1,10 @@
 -- The clock of a well sized module.
 use Rattle.std.proofs.Common.{◌≡◌, ℕ, Bool, true, false, cond, List, [], ◌∷◌, ◌++◌, map, Option, Some, None, refl, sym, ap, ◌∙◌, subst, inl, inr}
 use Rattle.std.specs.Prelude.{◌&&◌}
+use Rattle.lola_bits.specs.Lists.{IsIn}
+use Rattle.lola_bits.proofs.Names.{is_same_name}
+use Rattle.lola_bits.proofs.Lists.{in_either, from_map, both_none}
+use Rattle.lola_bits.proofs.Tests.{none_unless}
 use Rattle.lola_tree.specs.declared.named.Ref.{Ref}
 use Rattle.lola_tree.specs.declared.named.Shape.{Shape}
 use Rattle.lola_tree.specs.declared.named.Shape.TheVariants as shape
@@ -14,15 +18,13 @@ use Rattle.lola_tree.specs.Tree.{Tree, ActualTree, StmtTree, assignment, call, p
 use Rattle.lola_tree.specs.Names.{Entry, port, constant, local, entries, Names, names_of, count_number, ref_name}
 use Rattle.lola_tree.specs.Width.{checked_width, vector_width}
 use Rattle.lola_tree.specs.Signals.{is_inward}
-use Rattle.lola_tree.specs.Cycle.{IsIn, IsRegisterOf}
+use Rattle.lola_tree.specs.Cycle.{IsRegisterOf}
 use Rattle.lola_width.specs.declared.interface.Pin.{Pin}
 use Rattle.lola_width.specs.Interface.{Seen, or_first, instance_pins, listed, first_pin, later_pins, is_one, is_bit, is_clock_port, clock_named, kind_clock, locals_clock, bare_name, bare_clock, arg_clock, args_clock, stmt_clock, body_clock, module_clock, is_clock}
 use Rattle.lola_width.specs.NameFaults.{no_clock, type_faults, kind_faults, local_faults}
 use Rattle.lola_elab.specs.Small.{wide_in}
-use Rattle.lola_elab.proofs.Lists.{is_same_name, in_either, from_map}
 use Rattle.lola_elab.proofs.Tables.{first_in}
 use Rattle.lola_elab.proofs.Widths.{equal_is}
-use Rattle.lola_elab.proofs.FaultLists.{both_none, none_unless}
 
 -- the name that is a clock may be one
 abbrev MayBe : Names → Option (List ℕ) → Type 0

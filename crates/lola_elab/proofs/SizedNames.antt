@@ -2,6 +2,10 @@
 use Rattle.std.proofs.Common.{◌≡◌, ◌≢◌, ℕ, Bool, true, false, cond, List, [], ◌∷◌, map, Option, Some, None, refl, ap, ◌∙◌, inl, inr}
 use Rattle.std.specs.Prelude.{bytes_eq, nat_lt}
 use Rattle.std.specs.List.{AllByRecursion}
+use Rattle.lola_bits.specs.Lists.{IsIn, AreDistinct}
+use Rattle.lola_bits.proofs.Names.{same_name, is_same_name}
+use Rattle.lola_bits.proofs.Tests.{chosen_yes, none_unless}
+use Rattle.lola_bits.proofs.Lists.{both_none}
 use Rattle.lola_tree.specs.declared.named.Count.{Count}
 use Rattle.lola_tree.specs.declared.named.Count.TheVariants as count
 use Rattle.lola_tree.specs.declared.named.Shape.{Shape}
@@ -15,16 +19,12 @@ use Rattle.lola_tree.specs.declared.module.Local.{Local}
 use Rattle.lola_tree.specs.Tree.{ModuleTree}
 use Rattle.lola_tree.specs.Names.{Entry, port, constant, local, entry_name, entry_at, earlier, Names, names_of, count_number, constant_number}
 use Rattle.lola_tree.specs.Width.{is_width, checked_width, is_number, written_width, vector_width}
-use Rattle.lola_tree.specs.Cycle.{IsIn}
 use Rattle.lola_width.specs.NameFaults.{names_with, doubled, doubled_faults, no_clock, end_faults, count_faults, use_faults, is_constant, shape_faults, array_faults, type_faults, port_faults, kind_faults, local_faults}
 use Rattle.lola_width.specs.declared.uses.Use.TheVariants as use_
 use Rattle.lola_width.specs.Interface.{Seen}
 use Rattle.lola_width.specs.WidthFaults.{count_at, too_wide, shape_widths, port_widths, kind_widths, local_widths, const_widths, number_faults}
-use Rattle.lola_elab.specs.Small.{AreDistinct, IsSmallConst, wide_in, IsSmallPort, IsSmallKind}
+use Rattle.lola_elab.specs.Small.{IsSmallConst, wide_in, IsSmallPort, IsSmallKind}
 use Rattle.lola_elab.specs.Built.{IsPlain, IsPlainKind}
-use Rattle.lola_elab.proofs.Lists.{same_name, is_same_name}
-use Rattle.lola_elab.proofs.Widths.{chosen_yes}
-use Rattle.lola_elab.proofs.FaultLists.{both_none, none_unless}
 
 -- the name behind END
 pub ends_right : (m : ModuleTree) → end_faults m ≡ [] → m.ends.name ≡ m.name

@@ -7,6 +7,10 @@ use Rattle.std.proofs.lemmas.Bool.{cond-false}
 use Rattle.std.proofs.lemmas.Bool.Decides.{nat_tests}
 use Rattle.lola_bits.specs.declared.op.Op.{Op}
 use Rattle.lola_bits.specs.declared.op.Op.TheVariants as op
+use Rattle.lola_bits.specs.Lists.{AreDistinct}
+use Rattle.lola_bits.proofs.All.{of_all}
+use Rattle.lola_bits.proofs.Tests.{chosen_yes, none_unless, none_where}
+use Rattle.lola_bits.proofs.Lists.{both_none}
 use Rattle.lola_tree.specs.declared.named.Count.{Count}
 use Rattle.lola_tree.specs.declared.named.Ref.{Ref}
 use Rattle.lola_tree.specs.declared.named.Shape.{Shape}
@@ -20,12 +24,10 @@ use Rattle.lola_tree.specs.Names.{entry_name, entries, Names, names_of, first_na
 use Rattle.lola_tree.specs.Width.{scope_of, is_number, written_width, number_width, checked_width, vector_width, entry_width, bit_width, slice_width, same_width, defined_width, operator_width, repeated_width, joined_width, width, total_width}
 use Rattle.lola_width.specs.NameFaults.{value_faults, expr_faults, part_faults, count_faults}
 use Rattle.lola_width.specs.WidthFaults.{count_at, differ, beyond, turned_round, never, wide, operator_faults, expr_widths, part_widths}
-use Rattle.lola_elab.specs.Small.{AreDistinct, wide_in, IsSmallConst, IsSmallPort, IsSmallKind, IsLeaf, IsBuilt, AreBuilt}
+use Rattle.lola_elab.specs.Small.{wide_in, IsSmallConst, IsSmallPort, IsSmallKind, IsLeaf, IsBuilt, AreBuilt}
 use Rattle.lola_elab.specs.Built.{IsBetween, IsWritten, AreWritten}
-use Rattle.lola_elab.proofs.Lists.{of_all}
-use Rattle.lola_elab.proofs.Widths.{equal_is, chosen_yes, checked_is, number_in, same_self, width_checked}
+use Rattle.lola_elab.proofs.Widths.{equal_is, checked_is, number_in, same_self, width_checked}
 use Rattle.lola_elab.proofs.Entries.{port_named, const_named, local_named}
-use Rattle.lola_elab.proofs.FaultLists.{both_none, none_unless, none_where}
 use Rattle.lola_elab.proofs.SizedNames.{count_known}
 
 -- a width of one bit at least

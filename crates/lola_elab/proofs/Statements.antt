@@ -5,17 +5,19 @@ use Rattle.std.specs.Option.{is_some, IsSome, option_map}
 use Rattle.std.specs.Borrow.{Bor}
 use Rattle.std.specs.List.{AllByRecursion}
 use Rattle.std.proofs.lemmas.Bool.{false≢true, cond-true, cond-false, cases_Bool, false_from_ne_true}
+use Rattle.lola_bits.specs.Lists.{IsIn}
+use Rattle.lola_bits.proofs.All.{of_all}
+use Rattle.lola_bits.proofs.Lists.{from_map, to_map}
+use Rattle.lola_bits.proofs.Names.{same_name, is_same_name, other_name}
+use Rattle.lola_bits.proofs.Places.{drop_item, item_in}
 use Rattle.lola_tree.specs.declared.expr.Expr.{Expr}
 use Rattle.lola_tree.specs.declared.module.Stmt.{Stmt}
 use Rattle.lola_tree.specs.Tree.{Tree, tree, StmtTree, assignment, call, pad, stmt_tree}
 use Rattle.lola_tree.specs.Width.{Scope as Widths, width}
-use Rattle.lola_tree.specs.Cycle.{IsIn}
 use Rattle.lola_elab.specs.declared.flat.Flat.{Flat}
 use Rattle.lola_elab.specs.Meanings.{Meanings, HasMeaning, AreOf, IsFlatOf, HasNoFlat}
 use Rattle.lola_elab.specs.Small.{IsBuilt, target_of}
 use Rattle.lola_elab.specs.Assigned.{Assigns, IsWhole, AssignsOnce, IsSizedStmt, AreSized, IsValueOf, trees_of, IsNextOf}
-use Rattle.lola_elab.proofs.Lists.{of_all, from_map, to_map, same_name, is_same_name, other_name}
-use Rattle.lola_elab.proofs.Steps.{drop_item, item_in}
 
 -- what a statement assigns
 pub target_is : (t : StmtTree) (name : List ℕ) (e : Tree) → Assigns t name e → target_of t ≡ name

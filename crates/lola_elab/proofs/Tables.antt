@@ -4,6 +4,11 @@ use Rattle.std.specs.Prelude.{bytes_eq, if◌then◌else◌, slice_get}
 use Rattle.std.specs.List.{AllByRecursion}
 use Rattle.std.proofs.lemmas.Bool.{cases_Bool, cond-true, cond-false}
 use Rattle.lola_bits.specs.Vector.{FitsWidth}
+use Rattle.lola_bits.proofs.Options.{none_or_some}
+use Rattle.lola_bits.specs.Lists.{IsIn, AreDistinct}
+use Rattle.lola_bits.proofs.All.{of_all}
+use Rattle.lola_bits.proofs.Lists.{from_map, to_map, in_either}
+use Rattle.lola_bits.proofs.Names.{same_name, is_same_name}
 use Rattle.lola_tree.specs.declared.named.Count.{Count}
 use Rattle.lola_tree.specs.declared.named.Count.TheVariants as count
 use Rattle.lola_tree.specs.declared.named.Ref.{Ref}
@@ -11,14 +16,12 @@ use Rattle.lola_tree.specs.declared.module.Const.{Const}
 use Rattle.lola_tree.specs.Tree.{ModuleTree}
 use Rattle.lola_tree.specs.Names.{Entry, port, constant, local, entry_name, entry_at, entries, earlier, first_named, names_of, first_name, constant_number, count_number}
 use Rattle.lola_tree.specs.Width.{number_width, written_width, entry_width, scope_of}
-use Rattle.lola_tree.specs.Cycle.{IsIn}
 use Rattle.lola_elab.specs.declared.meaning.Meaning.{Meaning}
 use Rattle.lola_elab.specs.declared.meaning.Meaning.TheVariants as meaning
-use Rattle.lola_elab.specs.Small.{IsReadable, IsSmallConst, AreDistinct}
+use Rattle.lola_elab.specs.Small.{IsReadable, IsSmallConst}
 use Rattle.lola_elab.specs.Declares.{Sized, const_entry}
 use Rattle.lola_elab.specs.Tables.{updated, leaf_entries}
 use Rattle.lola_elab.specs.Meanings.{Meanings, path_meaning, meaning_of, constant_of, count_of, IsVector, AreVectors, AreOf}
-use Rattle.lola_elab.proofs.Lists.{of_all, from_map, to_map, in_either, same_name, is_same_name}
 use Rattle.lola_elab.proofs.Entries.{const_named}
 use Rattle.lola_elab.proofs.Widths.{number_in, number_fits}
 
@@ -159,12 +162,8 @@ stands_number : (m : ModuleTree) (q : List ℕ) (x : Meaning) → AreDistinct (m
 stands_number m q (meaning.Leaf n w) distinct s = s.2
 stands_number m q (meaning.Constant w v) distinct s = ap (λ (n : List ℕ). constant_number (names_of m n)) s.2 ∙ ap constant_number (const_named m s.0 distinct s.1) ∙ ap (λ (k : ℕ). Some k) (sym s.3)
 
-option : {X : Type 0} (o : Option X) → (o ≡ None) ⊎ ((x : X) × (o ≡ Some x))
-option None = inl refl
-option (Some x) = inr (x, refl)
-
 named_number : (m : ModuleTree) (names : Meanings) (q : List ℕ) → AreDistinct (map entry_name (entries m)) → IsTableOf m names → constant_number (names_of m q) ≡ constant_of (names q)
-named_number m names q distinct table = elim (option (names q)) [
+named_number m names q distinct table = elim (none_or_some (names q)) [
   | inl none ↦
       no_constant (names_of m q) (λ c e.
       let f = first_in (entries m) q (constant c) e in

@@ -5,6 +5,9 @@ use Rattle.std.specs.Prelude.{bytes_eq, filter}
 use Rattle.std.proofs.lemmas.Bool.{cases_Bool, or_left, or_from}
 use Rattle.std.proofs.lemmas.List.Folds.{list_any-append}
 use Rattle.std.proofs.lemmas.List.Elements.{filter_agree}
+use Rattle.lola_bits.specs.Lists.{IsIn, AreDistinct}
+use Rattle.lola_bits.specs.Names.{is_among}
+use Rattle.lola_bits.proofs.All.{of_all, all_of}
 use Rattle.lola_tree.specs.declared.named.Named.{Named}
 use Rattle.lola_tree.specs.declared.named.Shape.{Shape}
 use Rattle.lola_tree.specs.declared.module.Way.TheVariants.{Inward}
@@ -13,11 +16,10 @@ use Rattle.lola_tree.specs.declared.module.LocalKind.{LocalKind}
 use Rattle.lola_tree.specs.declared.module.LocalKind.TheVariants.{Reg, Var, Inst}
 use Rattle.lola_tree.specs.declared.module.Local.{Local}
 use Rattle.lola_tree.specs.Tree.{ModuleTree}
-use Rattle.lola_tree.specs.Cycle.{IsIn, IsRegisterOf}
-use Rattle.lola_tree.specs.Signals.{clock_of, clock_names, is_inward, is_among, name_of_register, register_names}
-use Rattle.lola_elab.specs.Small.{Wide, wide_in, IsSmallKind, AreDistinct, IsSmallModule}
+use Rattle.lola_tree.specs.Cycle.{IsRegisterOf}
+use Rattle.lola_tree.specs.Signals.{clock_of, clock_names, is_inward, name_of_register, register_names}
+use Rattle.lola_elab.specs.Small.{Wide, wide_in, IsSmallKind, IsSmallModule}
 use Rattle.lola_elab.specs.Declares.{local_names, first_clock, IsUnder, IsInward, IsDeclaredUnder}
-use Rattle.lola_elab.proofs.Lists.{of_all, all_of}
 use Rattle.lola_elab.proofs.Entries.{entry_names}
 
 -- a small local is a register

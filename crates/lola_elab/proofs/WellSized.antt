@@ -2,6 +2,9 @@
 use Rattle.std.proofs.Common.{◌≡◌, ◌≢◌, ℕ, true, false, List, [], ◌∷◌, ◌++◌, map, Option, Some, None, ap, ◌∙◌, subst, inl, inr}
 use Rattle.lola_bits.specs.declared.op.Op.{Op}
 use Rattle.lola_bits.specs.declared.op.Op.TheVariants as op
+use Rattle.lola_bits.specs.Lists.{IsIn, AreDistinct}
+use Rattle.lola_bits.proofs.All.{of_all, all_of}
+use Rattle.lola_bits.proofs.Lists.{both_none}
 use Rattle.lola_tree.specs.declared.named.Shape.TheVariants as shape
 use Rattle.lola_tree.specs.declared.module.Way.TheVariants.{Both}
 use Rattle.lola_tree.specs.declared.module.Port.{Port}
@@ -11,17 +14,14 @@ use Rattle.lola_tree.specs.declared.module.Local.{Local}
 use Rattle.lola_tree.specs.Tree.{Tree, number, whole, bit, slice, index, concat, negation, binary, choice, Parts, no_part, one_part, StmtTree, assignment, call, pad, ModuleTree, SourceTree}
 use Rattle.lola_tree.specs.Names.{entries, names_of}
 use Rattle.lola_tree.specs.Width.{Scope, scope_of, checked_width, same_width, operator_width, width, total_width, repeated_width}
-use Rattle.lola_tree.specs.Cycle.{IsIn}
 use Rattle.lola_width.specs.Interface.{no_module}
 use Rattle.lola_width.specs.NameFaults.{no_names, title_faults, doubled_faults, port_faults, local_faults, body_faults, end_faults, used_faults, name_faults}
 use Rattle.lola_width.specs.WidthFaults.{port_widths, const_widths, local_widths, body_widths, width_faults}
 use Rattle.lola_width.specs.AssignmentFaults.{none_taken, taken_with_all, twice, body_targets, ports_never, locals_never, assignment_faults}
 use Rattle.lola_width.specs.Sized.{clock_in, faults_in, faults_from, IsWellSized}
-use Rattle.lola_elab.specs.Small.{AreDistinct, wide_in, IsSmallPort, IsSmallKind, IsSmallStmt, target_of, IsSmallModule, IsSmallSource}
+use Rattle.lola_elab.specs.Small.{wide_in, IsSmallPort, IsSmallKind, IsSmallStmt, target_of, IsSmallModule, IsSmallSource}
 use Rattle.lola_elab.specs.Built.{IsBetween, IsWritten, AreWritten, IsPlainKind, IsBuiltStmt, IsBuiltModule, IsBuiltSource}
 use Rattle.lola_elab.proofs.Widths.{checked_is, same_is, defined_is, operator_parts, repeated_is, joined_is}
-use Rattle.lola_elab.proofs.Lists.{of_all, all_of}
-use Rattle.lola_elab.proofs.FaultLists.{both_none}
 use Rattle.lola_elab.proofs.SizedNames.{ends_right, distinct_names, constants_small, ports_small, registers_small}
 use Rattle.lola_elab.proofs.SizedClock.{clock_is_port, register_clock}
 use Rattle.lola_elab.proofs.SizedValues.{AreVectors}

@@ -7,6 +7,12 @@ use Rattle.std.specs.String.{string_bytes}
 use Rattle.std.specs.BTreeMap.{get_by_text}
 use Rattle.std.proofs.lemmas.Bool.{false≢true}
 use Rattle.std.proofs.lemmas.List.{map-append, length-map}
+use Rattle.lola_bits.proofs.Places.{get_in, get_map, get_front, get_back, get_or_zero}
+use Rattle.lola_bits.specs.Lists.{IsIn, AreDistinct}
+use Rattle.lola_bits.specs.Names.{is_among}
+use Rattle.lola_bits.proofs.All.{of_all, all_of}
+use Rattle.lola_bits.proofs.Lists.{to_map, from_map, in_front, in_back, in_either, in_filter, from_filter}
+use Rattle.lola_bits.proofs.Names.{among, is_in}
 use Rattle.lola_tree.specs.declared.named.Ref.{Ref}
 use Rattle.lola_tree.specs.declared.named.Shape.{Shape}
 use Rattle.lola_tree.specs.declared.named.Shape.TheVariants as shape
@@ -19,8 +25,8 @@ use Rattle.lola_tree.specs.Tree.{Tree, number, whole, bit, slice, index, concat,
 use Rattle.lola_tree.specs.Names.{port, local, entry_name, entries, names_of, kind_shape, constant_number, count_number}
 use Rattle.lola_tree.specs.Width.{Scope as Widths, vector_width, entry_width, width, scope_of}
 use Rattle.lola_tree.specs.Value.{Values, or_zero}
-use Rattle.lola_tree.specs.Cycle.{IsIn, IsRegisterOf, names_at, Next, NextBy}
-use Rattle.lola_tree.specs.Signals.{is_among, is_inward, clock_names, input_names, register_names, values_of}
+use Rattle.lola_tree.specs.Cycle.{IsRegisterOf, names_at, Next, NextBy}
+use Rattle.lola_tree.specs.Signals.{is_inward, clock_names, input_names, register_names, values_of, is_outward}
 use Rattle.lola_elab.specs.declared.design.Design.{Design}
 use Rattle.lola_elab.specs.declared.flat.Flat.{Flat}
 use Rattle.lola_elab.specs.declared.meaning.Meaning.{Meaning}
@@ -28,15 +34,14 @@ use Rattle.lola_elab.specs.declared.meaning.Meaning.TheVariants as meaning
 use Rattle.lola_elab.specs.declared.signals.Signals.{Signals}
 use Rattle.lola_elab.specs.declared.vector.Vector.{Vector}
 use Rattle.lola_elab.specs.Flat.{flat_width, flat_number}
-use Rattle.lola_elab.specs.Small.{Wide, wide_in, IsVector, IsSmallPort, IsSmallKind, IsReadable, IsConstantOf, IsLeaf, IsTarget, IsBuilt, AreBuilt, IsSmallStmt, target_of, AreDistinct, IsSmallModule}
+use Rattle.lola_elab.specs.Small.{Wide, wide_in, IsVector, IsSmallPort, IsSmallKind, IsReadable, IsConstantOf, IsLeaf, IsTarget, IsBuilt, AreBuilt, IsSmallStmt, target_of, IsSmallModule}
 use Rattle.lola_elab.specs.Elaborated.{leaf_names, vector_names, vector_widths, widths_of, leaf_widths, Elaborates}
-use Rattle.lola_elab.specs.Declares.{is_outward, port_names, local_names, first_clock, Sized, sized, sized_port, sized_local, kind_width, outputs, wide_of, const_entry}
+use Rattle.lola_elab.specs.Declares.{port_names, local_names, first_clock, Sized, sized, sized_port, sized_local, kind_width, outputs, wide_of, const_entry}
 use Rattle.lola_elab.specs.Signals.{Declares}
 use Rattle.lola_elab.specs.Tables.{updated, leaf_entries}
 use Rattle.lola_elab.specs.Meanings.{HasMeaning, AreOf, ReadsLeaves}
 use Rattle.lola_elab.specs.Assigned.{target_names, IsWhole, AssignsOnce, IsSizedStmt, IsNextOf, AreNexts, IsWellAssigned, HasNexts}
 use Rattle.lola_elab.specs.Modules.{one_module}
-use Rattle.lola_elab.proofs.Lists.{of_all, all_of, to_map, from_map, in_front, in_back, in_either, in_filter, from_filter, among, is_in}
 use Rattle.lola_elab.proofs.Names.{is_register, register_listed, is_input, input_listed}
 use Rattle.lola_elab.proofs.Entries.{port_named, local_named}
 use Rattle.lola_elab.proofs.OneCycle.{assigned_target}
@@ -62,31 +67,6 @@ mutual
   parts_over : (P Q : Ref → Type 0) → ((r : Ref) → P r → Q r) → (ps : Parts) → AreBuilt P ps → AreBuilt Q ps
   parts_over P Q more no_part is = is
   parts_over P Q more (one_part e times behind) is = (built_over P Q more e is.0, parts_over P Q more behind is.1)
-
--- items by their numbers
-pub get_in : {X : Type 0} (xs : List X) (i : ℕ) (x : X) → slice_get xs i ≡ Some x → IsIn x xs
-get_in [] i x e = absurd (let f : None ≡ Some x = e in cc)
-get_in (y ∷ ys) zero x e = let f : Some y ≡ Some x = e in let g : y ≡ x = cc in inl (sym g)
-get_in (y ∷ ys) (suc i) x e = inr (get_in ys i x e)
-
-get_map : {X Y : Type 0} (f : X → Y) (xs : List X) (i : ℕ) (x : X) → slice_get xs i ≡ Some x → slice_get (map f xs) i ≡ Some (f x)
-get_map f [] i x e = absurd (let g : None ≡ Some x = e in cc)
-get_map f (y ∷ ys) zero x e = let g : Some y ≡ Some x = e in let h : y ≡ x = cc in ap (λ z. Some (f z)) h
-get_map f (y ∷ ys) (suc i) x e = get_map f ys i x e
-
-get_front : {X : Type 0} (xs ys : List X) (i : ℕ) (x : X) → slice_get xs i ≡ Some x → slice_get (xs ++ ys) i ≡ Some x
-get_front [] ys i x e = absurd (let g : None ≡ Some x = e in cc)
-get_front (y ∷ xs) ys zero x e = e
-get_front (y ∷ xs) ys (suc i) x e = get_front xs ys i x e
-
-get_back : {X : Type 0} (xs ys : List X) (i : ℕ) (x : X) → slice_get ys i ≡ Some x → slice_get (xs ++ ys) (length xs + i) ≡ Some x
-get_back {X = X} [] ys i x e = let n : 0 + i ≡ i = omega arith in ap (λ (k : ℕ). slice_get ys k) n ∙ e
-get_back {X = X} (y ∷ xs) ys i x e = let n : suc (length xs) + i ≡ suc (length xs + i) = omega arith in ap (λ (k : ℕ). slice_get (y ∷ (xs ++ ys)) k) n ∙ get_back xs ys i x e
-
-get_or_zero : (xs : List ℕ) (i x : ℕ) → slice_get xs i ≡ Some x → slice_index_or xs i 0 ≡ x
-get_or_zero [] i x e = absurd (let g : None ≡ Some x = e in cc)
-get_or_zero (y ∷ ys) zero x e = let f : Some y ≡ Some x = e in cc
-get_or_zero (y ∷ ys) (suc i) x e = get_or_zero ys i x e
 
 -- names and widths, taken apart
 just_widths : (vs : List Vector) → vector_widths vs ≡ map (λ (x : Sized). x.1) (map sized vs)

@@ -6,6 +6,8 @@ use Rattle.std.proofs.lemmas.Bool.Decides.{nat_tests}
 use Rattle.lola_bits.specs.declared.op.Op.{Op}
 use Rattle.lola_bits.specs.declared.op.Op.TheVariants as op
 use Rattle.lola_bits.specs.Vector.{FitsWidth}
+use Rattle.lola_bits.proofs.Options.{some_same, nothing}
+use Rattle.lola_bits.proofs.Tests.{chosen, chosen_yes}
 use Rattle.lola_tree.specs.Width.{is_width, checked_width, written_width, is_number, number_width, same_width, defined_width, bit_width, slice_width, operator_width, repeated_width, joined_width}
 
 pub is_below : (m n : ℕ) → nat_lt m n ≡ true → m < n
@@ -22,20 +24,6 @@ equal_is m n e = grind (arith, nat_tests)
 
 pub same_is_equal : (m : ℕ) → nat_eq m m ≡ true
 same_is_equal m = grind (arith, nat_tests)
-
--- a choice between something and nothing
-pub chosen : (b : Bool) (x y : ℕ) → cond b (Some x) None ≡ Some y → (b ≡ true) × (x ≡ y)
-chosen true x y e = (refl, let f : Some x ≡ Some y = e in cc)
-chosen false x y e = absurd (let f : None ≡ Some y = e in cc)
-
-pub chosen_yes : (b : Bool) (x : ℕ) → b ≡ true → cond b (Some x) None ≡ Some x
-chosen_yes b x e = rw e refl
-
-nothing : {T : Type 0} (y : ℕ) → None ≡ Some y → T
-nothing y e = absurd cc
-
-some_same : (x y : ℕ) → Some x ≡ Some y → x ≡ y
-some_same x y e = cc
 
 -- widths of 1 to 128 bits
 width_test : (n : ℕ) → is_width n ≡ true → (1 ≤ n) × (n ≤ 128)

@@ -3,17 +3,18 @@ use Rattle.std.specs.Prelude.{◌≡◌, ℕ, Bool, true, List, [], ◌∷◌, �
 use Rattle.std.specs.Option.{IsSome, option_map}
 use Rattle.std.specs.Borrow.{Bor}
 use Rattle.std.specs.List.{AllByRecursion}
+use Rattle.lola_bits.specs.Lists.{IsIn, AreDistinct}
+use Rattle.lola_bits.specs.Names.{is_among}
+use Rattle.lola_tree.specs.Signals.{is_outward}
 use Rattle.lola_tree.specs.declared.module.Port.{Port}
 use Rattle.lola_tree.specs.declared.module.Local.{Local}
 use Rattle.lola_tree.specs.declared.expr.Expr.{Expr}
 use Rattle.lola_tree.specs.Tree.{Tree, tree, StmtTree, assignment, call, pad, ModuleTree}
 use Rattle.lola_tree.specs.Width.{Scope as Widths, width}
-use Rattle.lola_tree.specs.Cycle.{IsIn}
-use Rattle.lola_tree.specs.Signals.{is_among}
 use Rattle.lola_elab.specs.declared.flat.Flat.{Flat}
 use Rattle.lola_elab.specs.Meanings.{Meanings, HasMeaning, AreOf, IsFlatOf}
-use Rattle.lola_elab.specs.Small.{IsBuilt, target_of, AreDistinct}
-use Rattle.lola_elab.specs.Declares.{is_outward, port_names, local_names}
+use Rattle.lola_elab.specs.Small.{IsBuilt, target_of}
+use Rattle.lola_elab.specs.Declares.{port_names, local_names}
 
 -- the names of the OUT ports and of the locals
 abbrev pub target_names : List Port → List Local → List (List ℕ)

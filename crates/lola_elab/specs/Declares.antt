@@ -2,6 +2,8 @@
 use Rattle.std.specs.Prelude.{◌≡◌, ℕ, ◌+◌, ◌≤◌, Bool, true, false, not, ◌&&◌, List, [], ◌∷◌, ◌++◌, length, map, filter, Option, Some, None, string_bytes}
 use Rattle.std.specs.Borrow.{Bor}
 use Rattle.std.specs.List.{AllByRecursion}
+use Rattle.lola_bits.specs.Lists.{IsIn, AreDistinct}
+use Rattle.lola_bits.specs.Names.{is_among}
 use Rattle.lola_tree.specs.declared.named.Shape.{Shape}
 use Rattle.lola_tree.specs.declared.named.Shape.TheVariants as shape
 use Rattle.lola_tree.specs.declared.module.Way.{Way}
@@ -13,19 +15,12 @@ use Rattle.lola_tree.specs.Tree.{ModuleTree}
 use Rattle.lola_tree.specs.Names.{kind_shape}
 use Rattle.lola_tree.specs.Width.{checked_width, written_width}
 use Rattle.lola_tree.specs.Value.{or_zero}
-use Rattle.lola_tree.specs.Cycle.{IsIn}
-use Rattle.lola_tree.specs.Signals.{clock_of, is_inward, is_among}
+use Rattle.lola_tree.specs.Signals.{clock_of, is_inward, is_outward}
 use Rattle.lola_elab.specs.declared.meaning.Meaning.{Meaning}
 use Rattle.lola_elab.specs.declared.meaning.Meaning.TheVariants as meaning
 use Rattle.lola_elab.specs.declared.vector.Vector.{Vector}
 use Rattle.lola_elab.specs.Meanings.{Meanings, count_of}
-use Rattle.lola_elab.specs.Small.{Wide, IsSmallPort, IsSmallKind, IsSmallConst, AreDistinct}
-
--- an OUT port's way
-abbrev pub is_outward : Way → Bool
-is_outward Inward = false
-is_outward Outward = true
-is_outward Both = false
+use Rattle.lola_elab.specs.Small.{Wide, IsSmallPort, IsSmallKind, IsSmallConst}
 
 -- the names of ports, constants and locals, in text order
 abbrev pub port_names : List Port → List (List ℕ)

@@ -1,6 +1,6 @@
 -- What the evaluation of an expression over vectors of bits makes.
 use Rattle.std.specs.Prelude.{◌≡◌, ℕ, Bool, List, map, length, Some}
-use Rattle.lola_alg.specs.Means.{number_of}
+use Rattle.lola_bits.specs.BitLists.{number_of}
 use Rattle.lola_elab.specs.declared.flat.Flat.{Flat}
 use Rattle.lola_elab.specs.Flat.{flat_width, flat_number}
 

@@ -1,6 +1,7 @@
 -- The small form of a design: one module of ports, constants and registers that are vectors.
 use Rattle.std.specs.Prelude.{◌≡◌, ◌≢◌, ◌⊎◌, ℕ, ◌+◌, ◌≤◌, false, List, [], ◌∷◌, length, map, Option, Some, None}
 use Rattle.std.specs.List.{AllByRecursion}
+use Rattle.lola_bits.specs.Lists.{AreDistinct, IsIn}
 use Rattle.lola_bits.specs.declared.op.Op.{Op}
 use Rattle.lola_bits.specs.declared.op.Op.TheVariants as op
 use Rattle.lola_tree.specs.declared.named.Count.TheVariants as count
@@ -16,7 +17,7 @@ use Rattle.lola_tree.specs.declared.module.Local.{Local}
 use Rattle.lola_tree.specs.Tree.{Tree, number, whole, bit, slice, index, concat, negation, binary, choice, Parts, no_part, one_part, StmtTree, assignment, call, pad, ModuleTree, SourceTree}
 use Rattle.lola_tree.specs.Names.{entry_name, entries, names_of}
 use Rattle.lola_tree.specs.Width.{number_width, vector_width, entry_width, width, scope_of}
-use Rattle.lola_tree.specs.Cycle.{IsIn, IsRegisterOf, IsInputOf}
+use Rattle.lola_tree.specs.Cycle.{IsRegisterOf, IsInputOf}
 
 -- a vector of one bit
 abbrev pub IsBit : Shape → Type 0
@@ -122,11 +123,6 @@ abbrev pub target_of : StmtTree → List ℕ
 target_of (assignment name place e at equals) = name
 target_of (call name args at) = name
 target_of (pad io inner drive release at) = []
-
--- no item comes twice
-abbrev pub AreDistinct : List (List ℕ) → Type 0
-AreDistinct [] = Unit {0}
-AreDistinct (x ∷ xs) = (IsIn x xs → ⊥) × AreDistinct xs
 
 -- a module of vector ports, constants, and vector registers under one clock of one bit, each OUT port and
 -- register assigned once, with at most 65,536 ports and registers

@@ -2,10 +2,10 @@ ghost use Rattle.std.specs.Prelude.{◌≡◌, ◌↔◌, ℕ, Bool, List, map, 
 ghost use Rattle.std.specs.List.{AllByRecursion};
 ghost use Rattle.std.specs.BTreeSet.{contains_text};
 ghost use Rattle.std.specs.BTreeMap.{get_by_text};
+ghost use Rattle.lola_bits.specs.Lists.{IsIn};
+ghost use Rattle.lola_bits.specs.Names.{is_among};
 ghost use Rattle.lola_tree.specs.Width.{Scope as Widths};
 ghost use Rattle.lola_tree.specs.Tree.{tree, StmtTree, stmt_tree, module_tree};
-ghost use Rattle.lola_tree.specs.Cycle.{IsIn};
-ghost use Rattle.lola_tree.specs.Signals.{is_among};
 ghost use Rattle.lola_elab.specs.Small.{target_of};
 ghost use Rattle.lola_elab.specs.Assigned.{target_names, Assigns, IsWhole, AssignsOnce, IsSizedStmt, AreSized, AreValuesOf, trees_of, IsNextOf, AreNexts, IsWellAssigned, HasNexts};
 ghost use Rattle.lola_elab.specs.Meanings.{AreVectors, AreOf};

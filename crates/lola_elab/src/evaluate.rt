@@ -1,7 +1,8 @@
 ghost use Rattle.std.specs.Prelude.{◌≡◌, ◌+◌, ◌-◌, ◌*◌, ◌≤◌, ◌<◌, ◌^◌, Bool, List, map, length, IfOk};
 ghost use Rattle.lola_bits.specs.Number.{slice_of, joined};
+ghost use Rattle.lola_bits.specs.BitLists.{number_of};
 ghost use Rattle.lola_tree.specs.Value.{repeated};
-ghost use Rattle.lola_alg.specs.Means.{number_of, Suits, op_width, op_works, op_number};
+ghost use Rattle.lola_alg.specs.Means.{Suits, op_width, op_works, op_number};
 ghost use Rattle.lola_elab.specs.Flat.{HasWidth, PartsHaveWidths};
 ghost use Rattle.lola_elab.specs.Evaluated.{IsNumber, IsEvaluated};
 

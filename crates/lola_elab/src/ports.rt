@@ -1,10 +1,11 @@
 ghost use Rattle.std.specs.Prelude.{◌≡◌, ◌↔◌, Some, map, IfOk, IsTrue};
 ghost use Rattle.std.specs.List.{AllByRecursion};
 ghost use Rattle.std.specs.BTreeMap.{get_by_text};
+ghost use Rattle.lola_bits.specs.Names.{is_among};
 ghost use Rattle.lola_tree.specs.Names.{kind_shape};
 ghost use Rattle.lola_tree.specs.Width.{checked_width};
 ghost use Rattle.lola_tree.specs.Value.{or_zero};
-ghost use Rattle.lola_tree.specs.Signals.{clock_of, is_among};
+ghost use Rattle.lola_tree.specs.Signals.{clock_of};
 ghost use Rattle.lola_elab.specs.Small.{IsVector, IsSmallPort};
 ghost use Rattle.lola_elab.specs.Declares.{names_in, first_clock, wide_of, kind_width, IsUnder, IsInwardNamed, IsInward, sized, sized_local, inputs_under};
 

@@ -1,7 +1,7 @@
 ghost use Rattle.std.specs.Prelude.{◌≡◌, ◌↔◌, ℕ, List, ◌++◌, cond, false, not, ◌||◌, bytes_eq, IfOk, OnOk, IsTrue};
 ghost use Rattle.std.specs.BTreeSet.{contains_text};
-ghost use Rattle.lola_tree.specs.Signals.{is_among};
-ghost use Rattle.lola_elab.specs.Small.{AreDistinct};
+ghost use Rattle.lola_bits.specs.Names.{is_among};
+ghost use Rattle.lola_bits.specs.Lists.{AreDistinct};
 ghost use Rattle.lola_elab.specs.Declares.{port_names, const_names, local_names};
 ghost use Rattle.lola_elab.specs.Assigned.{target_names};
 

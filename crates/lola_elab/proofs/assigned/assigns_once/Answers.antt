@@ -8,10 +8,10 @@ use Rattle.std.specs.declared.string.String.{String}
 use Rattle.std.proofs.lemmas.Bool.{false≢true, or_parts}
 use Rattle.std.proofs.lemmas.List.{drop_all}
 use Rattle.std.proofs.lemmas.Map.Text.{is_eq-slice_cmp}
+use Rattle.lola_bits.proofs.Names.{same_name}
 use Rattle.lola_tree.specs.declared.module.Stmt.{Stmt}
 use Rattle.lola_tree.specs.Tree.{stmt_tree}
 use Rattle.lola_elab.specs.Assigned.{AssignsOnce}
-use Rattle.lola_elab.proofs.Lists.{same_name}
 use Rattle.lola_elab.proofs.Statements.{once_at, once_end}
 use Rattle.lola_elab.proofs.assigned.assigns_once.Goals as goal
 

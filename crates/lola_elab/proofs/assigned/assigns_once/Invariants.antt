@@ -1,7 +1,7 @@
 use Rattle.std.proofs.Common.{◌↔◌, map, drop}
 use Rattle.std.specs.BTreeSet.{contains_text}
+use Rattle.lola_bits.specs.Names.{is_among}
 use Rattle.lola_tree.specs.Tree.{stmt_tree}
-use Rattle.lola_tree.specs.Signals.{is_among}
 use Rattle.lola_elab.specs.Assigned.{target_names, AssignsOnce}
 use Rattle.lola_elab.proofs.assigned.assigns_once.Given as goal
 

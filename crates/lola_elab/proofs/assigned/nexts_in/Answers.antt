@@ -1,8 +1,11 @@
 use Rattle.std.proofs.Common.{◌≡◌, ℕ, ◌≤◌, List, [], ◌++◌, length, map, drop, Err, sym, ap, subst, append-nil}
 use Rattle.std.specs.String.{string_bytes}
 use Rattle.std.proofs.lemmas.List.{drop_all}
+use Rattle.lola_bits.specs.Lists.{IsIn}
+use Rattle.lola_bits.proofs.All.{of_all}
+use Rattle.lola_bits.proofs.Lists.{to_map}
+use Rattle.lola_bits.proofs.Places.{item_in}
 use Rattle.lola_tree.specs.Tree.{StmtTree, stmt_tree}
-use Rattle.lola_tree.specs.Cycle.{IsIn}
 use Rattle.lola_elab.specs.declared.fault.ElabError.{ElabError}
 use Rattle.lola_elab.specs.declared.fault.ElabError.TheVariants.{NotBuilt}
 use Rattle.lola_elab.specs.declared.flat.Flat.{Flat}
@@ -10,8 +13,6 @@ use Rattle.lola_elab.specs.declared.vector.Vector.{Vector}
 use Rattle.lola_elab.specs.Meanings.{Meanings}
 use Rattle.lola_elab.specs.Small.{target_of}
 use Rattle.lola_elab.specs.Assigned.{AreNexts}
-use Rattle.lola_elab.proofs.Lists.{of_all, to_map}
-use Rattle.lola_elab.proofs.Steps.{item_in}
 use Rattle.lola_elab.proofs.assigned.nexts_in.Goals as goal
 
 pub returns-in-Err-clause-none : goal.returns-in-Err-clause-none

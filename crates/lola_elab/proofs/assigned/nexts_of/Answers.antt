@@ -2,9 +2,9 @@ use Rattle.std.proofs.Common.{List, map, sym, subst}
 use Rattle.std.specs.List.{AllByRecursion}
 use Rattle.std.specs.BTreeMap.{get_by_text}
 use Rattle.std.specs.String.{string_bytes}
+use Rattle.lola_bits.specs.Lists.{IsIn}
 use Rattle.lola_tree.specs.declared.module.Stmt.{Stmt}
 use Rattle.lola_tree.specs.Tree.{stmt_tree}
-use Rattle.lola_tree.specs.Cycle.{IsIn}
 use Rattle.lola_elab.specs.declared.vector.Vector.{Vector}
 use Rattle.lola_elab.specs.Small.{target_of}
 use Rattle.lola_elab.specs.Assigned.{AreSized}

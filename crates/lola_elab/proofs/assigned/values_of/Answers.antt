@@ -2,9 +2,9 @@ use Rattle.std.proofs.Common.{◌≡◌, ℕ, ◌≤◌, List, length, map, drop
 use Rattle.std.specs.Option.{IsSome}
 use Rattle.std.specs.BTreeMap.{get_by_text}
 use Rattle.std.proofs.lemmas.List.{drop_all}
+use Rattle.lola_bits.specs.Lists.{IsIn}
 use Rattle.lola_tree.specs.declared.module.Stmt.{Stmt}
 use Rattle.lola_tree.specs.Tree.{Tree, tree, StmtTree, stmt_tree}
-use Rattle.lola_tree.specs.Cycle.{IsIn}
 use Rattle.lola_elab.specs.Assigned.{Assigns, IsValueOf, AreValuesOf, trees_of}
 use Rattle.lola_elab.proofs.Statements.{stmt_in, tree_entered, value_entered, each_entered, none_entered}
 use Rattle.lola_elab.proofs.assigned.values_of.Goals as goal

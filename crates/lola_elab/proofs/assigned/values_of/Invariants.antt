@@ -1,8 +1,8 @@
 use Rattle.std.proofs.Common.{◌≡◌, ℕ, List, map, drop, Some, ◌⊎◌}
 use Rattle.std.specs.Option.{IsSome}
 use Rattle.std.specs.BTreeMap.{get_by_text}
+use Rattle.lola_bits.specs.Lists.{IsIn}
 use Rattle.lola_tree.specs.Tree.{Tree, StmtTree, stmt_tree}
-use Rattle.lola_tree.specs.Cycle.{IsIn}
 use Rattle.lola_elab.specs.Assigned.{Assigns, IsValueOf, trees_of}
 use Rattle.lola_elab.proofs.assigned.values_of.Given as goal
 

@@ -1,5 +1,5 @@
 use Rattle.std.proofs.Common.{◌≡◌, ◌+◌, ◌*◌, ◌^◌, length}
-use Rattle.lola_alg.specs.Means.{number_of}
+use Rattle.lola_bits.specs.BitLists.{number_of}
 use Rattle.lola_elab.proofs.evaluate.number_bits.Given as goal
 
 -- the bits so far, and what is left above them

@@ -1,7 +1,7 @@
 use Rattle.std.specs.BTreeMap.{get_by_text}
+use Rattle.lola_bits.proofs.Places.{all_step}
 use Rattle.lola_elab.specs.Declares.{wide_of}
 use Rattle.lola_elab.specs.Small.{IsSmallPort}
-use Rattle.lola_elab.proofs.Steps.{all_step}
 use Rattle.lola_elab.proofs.ports.are_small_ports.Goals as goal
 
 pub loop-port-preserved : goal.loop-port-preserved

@@ -1,9 +1,9 @@
 use Rattle.std.proofs.Common.{◌≡◌, ◌↔◌, ℕ, ◌+◌, ◌<◌, List, ◌∷◌, length, get_or, drop, refl, sym, subst, inl, inr}
 use Rattle.std.proofs.lemmas.Bool.{iff_false}
+use Rattle.lola_bits.proofs.Places.{drop_item, item_in}
 use Rattle.lola_tree.specs.declared.module.Port.{Port}
 use Rattle.lola_elab.specs.Small.{Wide}
 use Rattle.lola_elab.specs.Declares.{IsInward, IsInwardNamed}
-use Rattle.lola_elab.proofs.Steps.{drop_item, item_in}
 use Rattle.lola_elab.proofs.ports.has_inward.Goals as goal
 
 -- what stands behind an item that isn't the one

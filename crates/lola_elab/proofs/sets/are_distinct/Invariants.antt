@@ -1,6 +1,6 @@
 use Rattle.std.proofs.Common.{◌↔◌, ◌++◌, drop}
 use Rattle.std.specs.BTreeSet.{contains_text}
-use Rattle.lola_elab.specs.Small.{AreDistinct}
+use Rattle.lola_bits.specs.Lists.{AreDistinct}
 use Rattle.lola_elab.specs.Declares.{port_names, const_names, local_names}
 use Rattle.lola_elab.proofs.NewNames.{AreNew}
 use Rattle.lola_elab.proofs.sets.are_distinct.Given as goal

@@ -1,6 +1,6 @@
 use Rattle.std.proofs.Common.{◌≡◌, ℕ, List, ◌||◌, drop}
 use Rattle.std.specs.BTreeSet.{contains_text}
-use Rattle.lola_tree.specs.Signals.{is_among}
+use Rattle.lola_bits.specs.Names.{is_among}
 use Rattle.lola_elab.specs.Declares.{local_names}
 use Rattle.lola_elab.specs.Assigned.{target_names}
 use Rattle.lola_elab.proofs.sets.wanted_targets.Given as goal
