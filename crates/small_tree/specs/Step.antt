@@ -1,11 +1,12 @@
 -- What a table says of a word: its class, the states after an instruction, and an execution from
 -- answer to answer. So far the word is 0 of width 1, and an instruction makes no access.
 use Rattle.std.specs.Prelude.{◌≡◌, ℕ, zero, suc, ◌+◌, ◌-◌, ◌/◌, ◌%◌, ◌^◌, ◌≤◌, Bool, true, false, if◌then◌else◌, nat_eq, List, [], ◌∷◌, length, drop, bytes_eq, codes, ◌&&◌, Some, None}
+use Rattle.lola_bits.specs.Number.{bit_at}
+use Rattle.lola_bits.specs.Lists.{IsIn}
 use Rattle.lola_tree.specs.declared.named.Ref.{Ref}
 use Rattle.lola_tree.specs.Tree.{Tree}
 use Rattle.lola_tree.specs.Width.{Scope}
 use Rattle.lola_tree.specs.Value.{Path, Values, value}
-use Rattle.lola_tree.specs.Cycle.{IsIn}
 use Rattle.small_tree.specs.Table.{StateTree, SetTree, PhaseTree, ClassTree, TableTree}
 
 -- where an expression of a table stands: so far each name is a vector of one bit, and there are no
@@ -25,10 +26,6 @@ Arch = List ℕ
 pub record Answer : Type 0 where
   pub code : ℕ
   pub loaded : ℕ
-
--- the bit of a number at a place
-abbrev pub bit_at : ℕ → ℕ → ℕ
-bit_at x n = x / 2 ^ n % 2
 
 -- one place of a pattern, at a bit: `-`, which is byte 45, has both; `0` and `1`, from 48 on, have their own
 abbrev pub fits_place : ℕ → ℕ → Bool
