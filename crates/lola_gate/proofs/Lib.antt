@@ -6,3 +6,4 @@ pub mod Holds
 pub mod Evals
 pub mod NetSteps
 pub mod Cycled
+pub mod Formed

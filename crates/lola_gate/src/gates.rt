@@ -1,8 +1,9 @@
 ghost use Rattle.std.specs.Prelude.{◌≡◌, ◌<◌, ◌+◌, ◌*◌, ◌/◌, ◌≤◌, ◌^◌, ◌++◌, ℕ, true, suc, [], ◌∷◌, List, length, Ok, Err, IfOk};
+ghost use Rattle.std.specs.List.{AllByRecursion};
 ghost use Rattle.lola_alg.specs.Algebra.{Fits, Kept};
 ghost use Rattle.lola_net.specs.declared.node.Node.TheVariants.{Free, Latch, Pad, Gate};
 ghost use Rattle.lola_net.specs.Literals.{at_literal, at_node};
-ghost use Rattle.lola_net.specs.Equations.{uses_smaller};
+ghost use Rattle.lola_net.specs.Equations.{uses_smaller, IsFormed};
 ghost use Rattle.lola_gate.specs.Gates.{gates_calls, gates_meaning, knows_literal, both_of, shared, gate_at, frees, AreValues, with_next};
 ghost use Rattle.lola_gate.specs.Added.{Added};
 ghost use Rattle.lola_gate.specs.Held.{node_of};
@@ -199,8 +200,8 @@ impl Gates {
     }
 
     /// The net of these nodes: with its name, its clock, its ports, the next literals of the latches in
-    /// order, and the outputs. A latch for which there is no next literal has 0. The only refusal is want of
-    /// memory, and nothing is handed back then.
+    /// order, and the outputs. A latch for which there is no next literal has 0. Where all literals are of these
+    /// nodes, the net is formed. The only refusal is want of memory, and nothing is handed back then.
     pub fn into_net(
         self,
         alloc: Global,
@@ -210,7 +211,8 @@ impl Gates {
         next: Seq<u32>,
         outputs: Seq<(Name, u32)>,
     ) -> Result<Net, Memory>
-        ensures { IfOk result (λ net. net ≡ record { name = name; clock = clock; ports = ports; nodes = with_next next self; outputs = outputs }) }
+        ensures net { IfOk result (λ net. net ≡ record { name = name; clock = clock; ports = ports; nodes = with_next next self; outputs = outputs }) }
+        ensures formed { IfOk result (λ net. AllByRecursion (λ l. l / 2 ≤ length self) next → AllByRecursion (λ o. o.1 / 2 ≤ length self) outputs → IsFormed net) }
     {
         let Gates {
             held,
