@@ -1,3 +1,4 @@
 pub mod Rows
 pub mod SameReads
 pub mod OneCycle
+pub mod SampleFormed

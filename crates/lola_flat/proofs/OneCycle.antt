@@ -10,7 +10,7 @@ use Rattle.lola_flat.specs.declared.design.SigKind.{SigKind}
 use Rattle.lola_flat.specs.declared.design.SigKind.TheVariants.{Input, Pad, Wire, Register}
 use Rattle.lola_flat.specs.Tree.{ExprTree, SignalTree, FlatTree}
 use Rattle.lola_flat.specs.Value.{Env, env, value, Read, vector_of, array_of, outside_of, reads}
-use Rattle.lola_flat.specs.Signals.{IsSignal, widths_of, number_read, HaveSame}
+use Rattle.lola_flat.specs.Signals.{IsSignal, widths_of, HaveSame}
 use Rattle.lola_flat.specs.Formed.{IsKind, EquationFits, IsReadyBehind, IsFormed}
 use Rattle.lola_flat.specs.Cycle.{IsValueOf, IsCycle}
 use Rattle.lola_flat.proofs.SameReads.{value_same}
@@ -71,15 +71,12 @@ module _ (F : FlatTree) (formed : IsFormed F) (given : List (List ℕ)) (outer :
       ∙ sym (given_value F (env M outer) s.kind s.equation (get_or given n []) (get_or M n []) kind (q.each n s is))
 
   -- what is ready is the same, where all before are
-  same_ready : (before : List ℕ) → ((k : ℕ) → IsIn k before → Same k) → (n : ℕ) → IsReadyBehind F before n → Same n
-  same_ready before all n (inl k) = same_given n k.0 k.1.0 (inl k.1.1)
-  same_ready before all n (inr (inl k)) = same_given n k.0 k.1.0 (inr k.1.1)
-  same_ready before all n (inr (inr among)) = all n among
-
-  same_read : (r : Read) → Same (number_read r) → HaveSame (env N outer) (env M outer) r
-  same_read (vector_of n) same = same
-  same_read (array_of n) same = same
-  same_read (outside_of n) same = refl
+  same_ready : (before : List ℕ) → ((k : ℕ) → IsIn k before → Same k) → (r : Read) → IsReadyBehind F before r → HaveSame (env N outer) (env M outer) r
+  same_ready before all (vector_of n) (inl k) = same_given n k.0 k.1.0 (inl k.1.1)
+  same_ready before all (vector_of n) (inr (inl k)) = same_given n k.0 k.1.0 (inr k.1.1)
+  same_ready before all (vector_of n) (inr (inr among)) = all n among
+  same_ready before all (array_of n) k = same_given n k.0 k.1.0 (inr k.1.1)
+  same_ready before all (outside_of n) ready = refl
 
   wide_read : (r : Read) → HaveSame (widths_of F) (widths_of F) r
   wide_read (vector_of n) = refl
@@ -89,13 +86,13 @@ module _ (F : FlatTree) (formed : IsFormed F) (given : List (List ℕ)) (outer :
   same_driven : (before after : List ℕ) (n : ℕ) (s : SignalTree) → F.order ≡ before ++ n ∷ after → ((k : ℕ) → IsIn k before → Same k) → IsSignal F n s → IsDriven s.kind → Same n
   same_driven before after n s split all is driven =
       let found = has_equation s.kind s.equation driven (formed.signals n s is).equation in
-      let ready : AllByRecursion (λ r. IsReadyBehind F before (number_read r)) (reads found.0) =
-      subst (λ (o : Option ExprTree). IfSome o (λ e. AllByRecursion (λ r. IsReadyBehind F before (number_read r)) (reads e))) found.1 (formed.order.uses before after n s split is) in
+      let ready : AllByRecursion (IsReadyBehind F before) (reads found.0) =
+      subst (λ (o : Option ExprTree). IfSome o (λ e. AllByRecursion (IsReadyBehind F before) (reads e))) found.1 (formed.order.uses before after n s split is) in
       let same : value (widths_of F) (env N outer) found.0 ≡ value (widths_of F) (env M outer) found.0 =
       value_same (widths_of F) (widths_of F) (env N outer) (env M outer) found.0
       (all_of (HaveSame (widths_of F) (widths_of F)) (reads found.0) (λ r among. wide_read r))
       (all_of (HaveSame (env N outer) (env M outer)) (reads found.0)
-      (λ r among. same_read r (same_ready before all (number_read r) (of_all (λ t. IsReadyBehind F before (number_read t)) r (reads found.0) ready among)))) in
+      (λ r among. same_ready before all r (of_all (IsReadyBehind F before) r (reads found.0) ready among))) in
       driven_value F (env N outer) s.kind s.equation (get_or given n []) (get_or N n []) driven found.0 found.1 (p.each n s is)
       ∙ ap (λ x. x ∷ []) same
       ∙ sym (driven_value F (env M outer) s.kind s.equation (get_or given n []) (get_or M n []) driven found.0 found.1 (q.each n s is))

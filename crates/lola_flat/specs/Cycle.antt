@@ -51,7 +51,13 @@ next_elements W N (Some place) None old = old
 next_elements W N None (Some e) old = value W N e ∷ []
 next_elements W N (Some place) (Some e) old = with_number old (value W N place) (value W N e)
 
--- the state behind a cycle: each register has its next value
+-- the state behind a cycle: each register has its next value, and for other signals nothing stands there
+abbrev pub IsNextOf : SigKind → List ℕ → List ℕ → Type 0
+IsNextOf Register next ns = ns ≡ next
+IsNextOf Input next ns = ns ≡ []
+IsNextOf Pad next ns = ns ≡ []
+IsNextOf Wire next ns = ns ≡ []
+
 pub record IsNext (F : FlatTree) (N : Env ℕ) (after : List (List ℕ)) : Type 0 where
-  pub each : (n : ℕ) (s : SignalTree) → IsSignal F n s → s.kind ≡ Register →
-      get_or after n [] ≡ next_elements (widths_of F) N s.place s.equation (get_or N.signals n [])
+  pub long : length after ≡ length F.signals
+  pub each : (n : ℕ) (s : SignalTree) → IsSignal F n s → IsNextOf s.kind (next_elements (widths_of F) N s.place s.equation (get_or N.signals n [])) (get_or after n [])

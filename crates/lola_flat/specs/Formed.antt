@@ -65,14 +65,15 @@ OutsideFits n Input s = (e : ExprTree) → IsIn e (expressions s) → AllByRecur
 OutsideFits n Wire s = (e : ExprTree) → IsIn e (expressions s) → AllByRecursion NotOutside (reads e)
 OutsideFits n Register s = (e : ExprTree) → IsIn e (expressions s) → AllByRecursion NotOutside (reads e)
 
--- an equation has the signal's width, and a place as many bits as tell the elements apart
+-- an equation has the signal's width, and a place k bits where the array has 2 to k elements
 pub record EquationSuits (F : FlatTree) (s : SignalTree) (e : ExprTree) : Type 0 where
   pub fits : Fits (widths_of F) e
   pub width : width (widths_of F) e ≡ s.width
 
 pub record PlaceSuits (F : FlatTree) (s : SignalTree) (e : ExprTree) : Type 0 where
   pub fits : Fits (widths_of F) e
-  pub width : 2 ^ width (widths_of F) e ≡ s.count
+  pub places : (1 ≤ width (widths_of F) e) × (width (widths_of F) e ≤ 10)
+  pub count : s.count ≡ 2 ^ width (widths_of F) e
 
 -- a signal by its number
 pub record IsFormedSignal (F : FlatTree) (n : ℕ) (s : SignalTree) : Type 0 where
@@ -89,18 +90,21 @@ pub record IsFormedSignal (F : FlatTree) (n : ℕ) (s : SignalTree) : Type 0 whe
   pub equation_suits : IfSome s.equation (EquationSuits F s)
   pub place_suits : IfSome s.place (PlaceSuits F s)
 
--- what an equation may use: inputs, registers and what stands before it in the order
-abbrev pub IsReadyBehind : FlatTree → List ℕ → ℕ → Type 0
-IsReadyBehind F before n = IsKind F n Input ⊎ (IsKind F n Register ⊎ IsIn n before)
+-- what an equation may read: inputs, registers and what stands before it in the order, and an outside value, which is
+-- no use of a signal
+abbrev pub IsReadyBehind : FlatTree → List ℕ → Read → Type 0
+IsReadyBehind F before (vector_of n) = IsKind F n Input ⊎ (IsKind F n Register ⊎ IsIn n before)
+IsReadyBehind F before (array_of n) = IsKind F n Register
+IsReadyBehind F before (outside_of n) = Unit {0}
 
--- the order has each wire and pad once and nothing else, and each equation uses what is ready before it
+-- the order has each wire and pad once and nothing else, and each equation reads what is ready before it
 pub record IsOrdered (F : FlatTree) : Type 0 where
   pub once : AreDistinct F.order
   pub only : (n : ℕ) → IsIn n F.order → IsKind F n Wire ⊎ IsKind F n Pad
   pub wires : (n : ℕ) → IsKind F n Wire → IsIn n F.order
   pub pads : (n : ℕ) → IsKind F n Pad → IsIn n F.order
   pub uses : (before after : List ℕ) (n : ℕ) (s : SignalTree) → F.order ≡ before ++ n ∷ after → IsSignal F n s →
-      IfSome s.equation (λ e. AllByRecursion (λ r. IsReadyBehind F before (number_read r)) (reads e))
+      IfSome s.equation (λ e. AllByRecursion (IsReadyBehind F before) (reads e))
 
 -- a flat design is well formed
 pub record IsFormed (F : FlatTree) : Type 0 where

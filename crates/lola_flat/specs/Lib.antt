@@ -4,3 +4,4 @@ pub mod Value
 pub mod Signals
 pub mod Formed
 pub mod Cycle
+pub mod Sample

@@ -25,7 +25,8 @@ pub struct Signal {
 }
 
 /// A flat design: its root's name, its clock, the numbers of the root's ports in text order, the signals,
-/// and the numbers of wires and pads in an order in which each equation uses earlier ones alone.
+/// and the numbers of wires and pads in an order in which each equation uses inputs, registers and earlier
+/// ones alone.
 #[derive(Debug, Drop)]
 pub struct Flat {
     pub root: Name,

@@ -7,6 +7,7 @@ ghost use Rattle.lola_flat.specs.Value.{Env, width, value, Fits, reads};
 ghost use Rattle.lola_flat.specs.Signals.{HaveSame};
 ghost use Rattle.lola_flat.specs.Formed.{IsFormed};
 ghost use Rattle.lola_flat.specs.Cycle.{IsCycle};
+ghost use Rattle.lola_flat.specs.Sample.{sample};
 
 use crate::expr::FExpr;
 
@@ -26,4 +27,9 @@ pub fn hangs_on_reads()
 /// A well formed flat design has at most one cycle for what it is given.
 pub fn at_most_one_cycle()
     ensures { (F : FlatTree) (given : List (List ℕ)) (outside : List ℕ) (N M : List (List ℕ)) → IsFormed F → IsCycle F given outside N → IsCycle F given outside M → N ≡ M }
+{}
+
+/// A design with a clock, an input, a pad, a wire, a register and an array is well formed.
+pub fn sample_is_formed()
+    ensures { IsFormed sample }
 {}

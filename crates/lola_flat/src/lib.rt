@@ -14,4 +14,4 @@ mod laws;
 
 pub use design::{Flat, SigKind, Signal};
 pub use expr::FExpr;
-pub use laws::{at_most_one_cycle, hangs_on_reads, lists_are_trees};
+pub use laws::{at_most_one_cycle, hangs_on_reads, lists_are_trees, sample_is_formed};
