@@ -16,9 +16,13 @@ ending = codes ";\n"
 abbrev pub given_text : List ℕ → Tree → List ℕ
 given_text word e = word ++ expr_text e
 
+-- and the end of its row
+abbrev pub ended_text : List ℕ → Tree → List ℕ
+ended_text word e = word ++ (expr_text e ++ ending)
+
 abbrev pub maybe_text : List ℕ → Option Tree → List ℕ
 maybe_text word None = []
-maybe_text word (Some e) = word ++ (expr_text e ++ ending)
+maybe_text word (Some e) = ended_text word e
 
 -- roles
 abbrev pub active_text : List ℕ → Active → List ℕ
@@ -147,9 +151,7 @@ title_text T = codes "TABLE " ++ (name_text T.name ++ (codes "FOR " ++ (name_tex
 abbrev pub views_text : TableTree → List ℕ
 views_text T =
     codes "STATE "
-    ++ (states_text T.states
-    ++ (fields_text (codes "FIELDS ") T.fields
-    ++ (codes "INVARIANT " ++ (expr_text T.invariant ++ (ending ++ (codes "BOUNDARY " ++ (expr_text T.boundary ++ ending)))))))
+    ++ (states_text T.states ++ (fields_text (codes "FIELDS ") T.fields ++ (ended_text (codes "INVARIANT ") T.invariant ++ ended_text (codes "BOUNDARY ") T.boundary)))
 
 abbrev pub start_text : TableTree → List ℕ
 start_text T = codes "START " ++ (starts_text T.starts ++ maybe_text (codes "FETCH ") T.start_fetch)

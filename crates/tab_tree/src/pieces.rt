@@ -1,8 +1,7 @@
 ghost use Rattle.std.specs.Prelude.{◌≡◌, ◌++◌, OnOk};
 ghost use Rattle.lola_tree.specs.Tree.{tree};
-ghost use Rattle.lola_tree.specs.Print.{expr_text};
 ghost use Rattle.tab_tree.specs.Table.{expr_tree};
-ghost use Rattle.tab_tree.specs.Print.{ending, given_text, maybe_text, port_text, is_number};
+ghost use Rattle.tab_tree.specs.Print.{given_text, ended_text, maybe_text, port_text, is_number};
 
 use lola_bits::Name;
 use lola_tree::{Expr, push_expr, push_name};
@@ -18,7 +17,7 @@ pub fn push_given(out: &mut Vec<u8>, word: &[u8], expr: &Expr) -> Result<(), All
 
 /// Appends an expression behind a word, and the end of the row.
 pub fn push_ended(out: &mut Vec<u8>, word: &[u8], expr: &Expr) -> Result<(), AllocError>
-    ensures { OnOk result (out.new.items ≡ out.old.items ++ (word.now ++ (expr_text (tree expr.now) ++ ending))) }
+    ensures { OnOk result (out.new.items ≡ out.old.items ++ ended_text word.now (tree expr.now)) }
 {
     out.extend_from_slice(word)?;
     push_expr(out, expr)?;
