@@ -9,7 +9,8 @@ use Rattle.lola_tree.specs.declared.named.Shape.TheVariants.{Vector, Array}
 use Rattle.lola_tree.specs.Tree.{SourceTree}
 use Rattle.lola_tree.specs.Value.{Path, Values}
 use Rattle.lola_tree.specs.design.Signals.{Kind, clock, input, pad, wire, register, Signal, signals, signal_paths}
-use Rattle.lola_tree.specs.design.Equations.{Equation}
+use Rattle.lola_tree.specs.Names.{Names}
+use Rattle.lola_tree.specs.design.Equations.{Equation, right_value}
 use Rattle.lola_tree.specs.design.Cycle.{AreSame, Cycle}
 use Rattle.lola_tree.specs.design.Chains.{flat_equations}
 use Rattle.lola_design.specs.Paths.{path_eq, count, has_equation, paths_where}
@@ -22,11 +23,11 @@ use Rattle.lola_design.proofs.OneSolution.{path_same, path_is}
 use Rattle.lola_design.proofs.Numbered.{Given, vector, array, IsGivenAs, Fixed, IsFixed, AreEquations, Solves}
 
 -- what a value is given as
-abbrev given_as : Shape → (ℕ → ℕ) → Given
+abbrev pub given_as : Shape → (ℕ → ℕ) → Given
 given_as (Vector width) x = vector (x 0)
 given_as (Array count width) x = array x
 
-abbrev given_of : Kind → Shape → (ℕ → ℕ) → (ℕ → ℕ) → Option Given
+abbrev pub given_of : Kind → Shape → (ℕ → ℕ) → (ℕ → ℕ) → Option Given
 given_of clock type s i = None
 given_of input type s i = Some (given_as type i)
 given_of pad type s i = None
@@ -37,13 +38,9 @@ abbrev fixed_in : List Signal → Values → Values → Fixed
 fixed_in [] s inp x = None
 fixed_in (y ∷ ys) s inp x = if path_eq y.path x then given_of y.kind y.type (s x) (inp x) else fixed_in ys s inp x
 
-as_given : (type : Shape) (x y : ℕ → ℕ) → AreSame type x y → IsGivenAs (given_as type y) x
-as_given (Vector width) x y same = same
-as_given (Array count width) x y same = same
-
-from_given : (type : Shape) (x y : ℕ → ℕ) → IsGivenAs (given_as type y) x → AreSame type x y
-from_given (Vector width) x y same = same
-from_given (Array count width) x y same = same
+from_given : (names : Names) (type : Shape) (x y : ℕ → ℕ) → IsGivenAs (given_as type y) x → AreSame names type x y
+from_given names (Vector width) x y same = same
+from_given names (Array count width) x y same = λ n within. same n
 
 module _ (s inp : Values) where
   -- what is given to a signal
@@ -61,7 +58,7 @@ module _ (s inp : Values) where
   ]
 
   -- and what has it
-  fixed_from : (xs : List Signal) (x : Path) (g : Given) → fixed_in xs s inp x ≡ Some g → (y : Signal) × IsIn y xs × (y.path ≡ x) × (given_of y.kind y.type (s x) (inp x) ≡ Some g)
+  pub fixed_from : (xs : List Signal) (x : Path) (g : Given) → fixed_in xs s inp x ≡ Some g → (y : Signal) × IsIn y xs × (y.path ≡ x) × (given_of y.kind y.type (s x) (inp x) ≡ Some g)
   fixed_from [] x g is = absurd (let e : None ≡ Some g = is in cc)
   fixed_from (z ∷ xs) x g is = elim (cases_Bool (path_eq z.path x)) [
     | inl same ↦ (z, inl refl, path_same z.path x same, sym (cond-true (path_eq z.path x) (given_of z.kind z.type (s x) (inp x)) (fixed_in xs s inp x) same) ∙ is)
@@ -77,7 +74,7 @@ module _ (S : SourceTree) (is : IsRegular S) (s inp : Values) where
   once : (x : Path) → count x (signal_paths S) ≤ 1
   once x = paths_once S is.names x
 
-  given_to : (y : Signal) → IsIn y (signals S) → fixed y.path ≡ given_of y.kind y.type (s y.path) (inp y.path)
+  pub given_to : (y : Signal) → IsIn y (signals S) → fixed y.path ≡ given_of y.kind y.type (s y.path) (inp y.path)
   given_to y there = fixed_is s inp (signals S) y (once y.path) there
 
   -- a wire or pad has an equation
@@ -117,7 +114,7 @@ module _ (S : SourceTree) (is : IsRegular S) (s inp : Values) where
   vector_read y z there pad kind other path = let e = equation_of z there (ap has_equation kind) in inr (e.0, e.1, e.2 ∙ path)
   vector_read y z there wire kind other path = let e = equation_of z there (ap has_equation kind) in inr (e.0, e.1, e.2 ∙ path)
 
-  array_is : (type : Shape) (x : ℕ → ℕ) → IsArray type → given_as type x ≡ array x
+  pub array_is : (type : Shape) (x : ℕ → ℕ) → IsArray type → given_as type x ≡ array x
   array_is (Vector width) x none = absurd none
   array_is (Array count width) x is_array = refl
 
@@ -138,29 +135,16 @@ module _ (S : SourceTree) (is : IsRegular S) (s inp : Values) where
         );
   }
 
-  -- cycles are solutions
-  solved_at : (v : Values) → Cycle S s inp v → (y : Signal) → IsIn y (signals S) → (x : Path) → y.path ≡ x → (k : Kind) → y.kind ≡ k → (g : Given) → given_of k y.type (s x) (inp x) ≡ Some g → IsGivenAs g (v x)
-  solved_at v c y there x path clock kind g e = absurd (let f : None ≡ Some g = e in cc)
-  solved_at v c y there x path pad kind g e = absurd (let f : None ≡ Some g = e in cc)
-  solved_at v c y there x path wire kind g e = absurd (let f : None ≡ Some g = e in cc)
-  solved_at v c y there x path input kind g e =
-      let f : given_as y.type (inp x) ≡ g = (let h : Some (given_as y.type (inp x)) ≡ Some g = e in cc) in
-      subst (λ (h : Given). IsGivenAs h (v x)) f (as_given y.type (v x) (inp x) (subst (λ (z : Path). AreSame y.type (v z) (inp z)) path (c.inputs y (there, kind))))
-  solved_at v c y there x path register kind g e =
-      let f : given_as y.type (s x) ≡ g = (let h : Some (given_as y.type (s x)) ≡ Some g = e in cc) in
-      subst (λ (h : Given). IsGivenAs h (v x)) f (as_given y.type (v x) (s x) (subst (λ (z : Path). AreSame y.type (v z) (s z)) path (c.registers y (there, kind))))
+  -- a cycle meets the equations of its signals
+  pub meets_all : (v : Values) → Cycle S s inp v → (e : Equation) → IsIn e (flat_equations S) → v e.left 0 ≡ right_value inp v e.right
+  meets_all v c = (pads_flat S is.pads inp v).0 c.holds
 
-  pub solves : (v : Values) → Cycle S s inp v → Solves (flat_equations S) fixed inp v
-  solves v c = record {
-    meets = (pads_flat S is.pads inp v).0 c.holds;
-    agrees = λ x g e. let y = fixed_from s inp (signals S) x g e in solved_at v c y.0 y.1 x y.2 y.0.kind refl g y.3;
-  }
-
+  -- and solutions are cycles
   pub cycle_of : (v : Values) → Solves (flat_equations S) fixed inp v → Cycle S s inp v
   cycle_of v q = record {
     holds = (pads_flat S is.pads inp v).1 q.meets;
-    registers = λ y there. from_given y.type (v y.path) (s y.path)
+    registers = λ y there. from_given y.names y.type (v y.path) (s y.path)
         (q.agrees y.path (given_as y.type (s y.path)) (given_to y there.0 ∙ ap (λ (k : Kind). given_of k y.type (s y.path) (inp y.path)) there.1));
-    inputs = λ y there. from_given y.type (v y.path) (inp y.path)
+    inputs = λ y there. from_given y.names y.type (v y.path) (inp y.path)
         (q.agrees y.path (given_as y.type (inp y.path)) (given_to y there.0 ∙ ap (λ (k : Kind). given_of k y.type (s y.path) (inp y.path)) there.1));
   }

@@ -20,12 +20,12 @@ use Rattle.lola_design.specs.Regular.{IsVector, FitsType, IsRegular}
 use Rattle.lola_design.proofs.Paths.{paths_once}
 use Rattle.lola_design.proofs.Found.{one_signal}
 use Rattle.lola_design.proofs.Graphs.{at_number, entry_from, entry_of}
-use Rattle.lola_design.proofs.Derived.{fixed, equation_of, equation_wires, are_equations, solves}
+use Rattle.lola_design.proofs.Derived.{fixed, equation_of, equation_wires, are_equations, meets_all}
 
 -- what is the same as a value of a type is one
-pub same_suits : (names : Names) (type : Shape) (x y : ℕ → ℕ) → AreSame type x y → Suits names type y → Suits names type x
+pub same_suits : (names : Names) (type : Shape) (x y : ℕ → ℕ) → AreSame names type x y → Suits names type y → Suits names type x
 same_suits names (Vector width) x y same fits = rw same fits
-same_suits names (Array count width) x y same fits = λ n within. rw (same n) (fits n within)
+same_suits names (Array count width) x y same fits = λ n within. rw (same n within) (fits n within)
 
 vector_suits : (names : Names) (type : Shape) (x : ℕ → ℕ) (n : ℕ) → IsVector type → x 0 ≡ n → FitsType names type n → Suits names type x
 vector_suits names (Vector width) x n is same fits = rw same fits
@@ -80,10 +80,10 @@ module _ (S : SourceTree) (is : IsRegular S) (order : List ℕ) (ordered : IsOrd
       let e = f.0 in
       let same : y.path ≡ e.left = (let g : Some y.path ≡ Some e.left = sym at_i ∙ f.2 in cc) in
       let reads = is.equation_reads e f.1 in
-      let meets = (solves S is s inp v c).meets e f.1 in
+      let meets = meets_all S is s inp v c e f.1 in
       let wired = equation_wires S is s inp e f.1 y there same in
       vector_suits y.names y.type (v y.path) (right_value inp v e.right) (is.vectors y there (wire_kind y.kind wired)) (ap (λ (x : Path). v x 0) same ∙ meets)
-      (is.values.by_equation e f.1 y there same inp v given.pads (λ z z_there read. elim read [
+      ((is.values.by_equation e f.1 y there same inp v given.pads (λ z z_there read. elim read [
         | inl as_vector ↦
             let r = reads.vector z.path as_vector in
             let k = one z r.0 z_there r.1 (sym r.4) in
@@ -93,7 +93,7 @@ module _ (S : SourceTree) (is : IsRegular S) (order : List ℕ) (ordered : IsOrd
         | inr as_array ↦
             let r = reads.array z.path as_array in
             register_suits z (subst (λ (t : Signal). IsSignal S register t) (sym (one z r.0 z_there r.1.0 (sym r.3))) r.1)
-      ]))
+      ])).0)
 
   placed_fits : (before xs : List ℕ) → ArePlaced (design_graph S) before xs → ((j : ℕ) → IsIn j before → Fit j) → (j : ℕ) → IsIn j (before ++ xs) → Fit j
   placed_fits before [] placed so j there = so j (subst (λ (l : List ℕ). IsIn j l) (append-nil before) there)

@@ -9,5 +9,6 @@ pub mod Graphs
 pub mod Found
 pub mod Derived
 pub mod Fits
+pub mod Filled
 pub mod OneCycle
 pub mod NamedLoops

@@ -1,18 +1,19 @@
 -- What a well sized design keeps to, in the words of its signals and equations: names and assignments come once,
 -- pads are passed on and driven as such, what is read is a signal, and values fit their signals.
-use Rattle.std.specs.Prelude.{◌≡◌, ◌≢◌, ◌⊎◌, ℕ, List, [], ◌++◌, reverse, Option, Some, None, IsSome}
+use Rattle.std.specs.Prelude.{◌≡◌, ◌≢◌, ◌⊎◌, ◌<◌, ℕ, List, [], ◌++◌, reverse, Option, Some, None, IsSome}
 use Rattle.lola_bits.specs.Lists.{IsIn}
 use Rattle.lola_tree.specs.declared.named.Shape.{Shape}
 use Rattle.lola_tree.specs.declared.named.Shape.TheVariants as shape
-use Rattle.lola_tree.specs.Tree.{Tree, ActualTree, SourceTree}
+use Rattle.lola_tree.specs.declared.named.Ref.{Ref}
+use Rattle.lola_tree.specs.Tree.{Tree, ActualTree, ModuleTree, SourceTree}
 use Rattle.lola_tree.specs.Names.{Names}
 use Rattle.lola_tree.specs.Width.{vector_width, element_width, scope_of}
 use Rattle.lola_tree.specs.Value.{Path, Values, value}
 use Rattle.lola_tree.specs.Cycle.{names_at, FitsIn}
-use Rattle.lola_tree.specs.design.Signals.{clock, pad, register, Signal, signals}
-use Rattle.lola_tree.specs.design.Equations.{Equation, right_value, Update, updates}
+use Rattle.lola_tree.specs.design.Signals.{clock, pad, register, Signal, signals, elements}
+use Rattle.lola_tree.specs.design.Equations.{Right, expression, copied, driven, Equation, right_value, Update, updates}
 use Rattle.lola_tree.specs.design.Cycle.{IsSignal, Suits}
-use Rattle.lola_tree.specs.design.Chains.{names_in, arrays_in, paths_of, right_paths, right_arrays, flat_equations}
+use Rattle.lola_tree.specs.design.Chains.{names_in, elements_in, arrays_in, paths_of, right_paths, right_arrays, flat_equations}
 use Rattle.lola_design.specs.Assigned.{AreAssigned}
 use Rattle.lola_design.specs.Once.{AllOnce}
 use Rattle.lola_design.specs.Drives.{PadsFit}
@@ -52,13 +53,28 @@ FitsType names (shape.Array count width) n = FitsIn (element_width names (Some (
 abbrev pub ReadsSuit : SourceTree → List Path → List Path → Values → Type 0
 ReadsSuit S vectors arrays v = (x : Signal) → IsIn x (signals S) → IsIn x.path vectors ⊎ IsIn x.path arrays → Suits x.names x.type (v x.path)
 
--- then so has what an equation or an update gives
+-- the places of the elements that an expression reads at a path are those of elements
+abbrev pub AreWithin : SourceTree → ModuleTree → Path → Values → Tree → Type 0
+AreWithin S m p v e =
+    (a : Ref × Tree) → IsIn a (elements_in e) → (x : Signal) → IsSignal S register x → x.path ≡ p ++ a.0.path → value (scope_of m) a.1 (names_at p v) < elements x.names x.type
+
+abbrev pub IsRightWithin : SourceTree → Values → Right → Type 0
+IsRightWithin S v (expression m p e) = AreWithin S m p v e
+IsRightWithin S v (copied from) = Unit {0}
+IsRightWithin S v (driven m p drive release io) = AreWithin S m p v release × AreWithin S m p v drive
+
+-- so are those in the place of an update, and the place itself
+abbrev pub IsPlaceWithin : SourceTree → ModuleTree → Path → Values → Signal → Option ActualTree → Type 0
+IsPlaceWithin S m p v x None = Unit {0}
+IsPlaceWithin S m p v x (Some place) = AreWithin S m p v place.value × (value (scope_of m) place.value (names_at p v) < elements x.names x.type)
+
+-- then what an equation or an update gives has them too, and no place is past an array
 pub record ValuesFit (S : SourceTree) : Type 0 where
   pub by_equation : (e : Equation) → IsIn e (flat_equations S) → (x : Signal) → IsIn x (signals S) → x.path ≡ e.left → (outside v : Values) →
       ((y : Signal) → IsSignal S pad y → Suits y.names y.type (outside y.path)) → ReadsSuit S (right_paths e.right) (right_arrays e.right) v →
-      FitsType x.names x.type (right_value outside v e.right)
+      FitsType x.names x.type (right_value outside v e.right) × IsRightWithin S v e.right
   pub by_update : (u : Update) → IsIn u (updates S) → (x : Signal) → IsIn x (signals S) → x.path ≡ u.left → (v : Values) → ReadsSuit S (update_paths u) (update_arrays u) v →
-      FitsType x.names x.type (value (scope_of u.module_) u.value (names_at u.path v))
+      FitsType x.names x.type (value (scope_of u.module_) u.value (names_at u.path v)) × AreWithin S u.module_ u.path v u.value × IsPlaceWithin S u.module_ u.path v x u.place
 
 pub record IsRegular (S : SourceTree) : Type 0 where
   pub names : AllOnce (reverse S.modules)

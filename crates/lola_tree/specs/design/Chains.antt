@@ -32,22 +32,26 @@ abbrev mutual
   part_names_in scope no_part = []
   part_names_in scope (one_part e times behind) = names_in scope e ++ part_names_in scope behind
 
--- the arrays of which an element is read in it
+-- the elements of arrays that are read in it, each by the name of the array and its place
 abbrev mutual
-  pub arrays_in : Tree → List Ref
-  arrays_in (number n written at) = []
-  arrays_in (whole of) = []
-  arrays_in (bit of place at) = []
-  arrays_in (slice of high low at) = []
-  arrays_in (index of place at) = of ∷ arrays_in place
-  arrays_in (concat parts at) = part_arrays_in parts
-  arrays_in (negation e at) = arrays_in e
-  arrays_in (binary o a b at) = arrays_in a ++ arrays_in b
-  arrays_in (choice test first second at) = arrays_in test ++ (arrays_in first ++ arrays_in second)
+  pub elements_in : Tree → List (Ref × Tree)
+  elements_in (number n written at) = []
+  elements_in (whole of) = []
+  elements_in (bit of place at) = []
+  elements_in (slice of high low at) = []
+  elements_in (index of place at) = (of, place) ∷ elements_in place
+  elements_in (concat parts at) = part_elements_in parts
+  elements_in (negation e at) = elements_in e
+  elements_in (binary o a b at) = elements_in a ++ elements_in b
+  elements_in (choice test first second at) = elements_in test ++ (elements_in first ++ elements_in second)
 
-  pub part_arrays_in : Parts → List Ref
-  part_arrays_in no_part = []
-  part_arrays_in (one_part e times behind) = arrays_in e ++ part_arrays_in behind
+  pub part_elements_in : Parts → List (Ref × Tree)
+  part_elements_in no_part = []
+  part_elements_in (one_part e times behind) = elements_in e ++ part_elements_in behind
+
+-- the arrays themselves
+abbrev pub arrays_in : Tree → List Ref
+arrays_in e = map (λ (a : Ref × Tree). a.0) (elements_in e)
 
 -- the paths of what is read at a path
 abbrev pub paths_of : Path → List Ref → List Path

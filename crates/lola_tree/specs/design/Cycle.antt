@@ -21,11 +21,10 @@ Suits names (shape.Vector width) x = FitsIn (vector_width names (Some (shape.Vec
 Suits names (shape.Array count width) x =
     (n : ℕ) → n < elements names (shape.Array count width) → FitsIn (element_width names (Some (shape.Array count width))) (x n)
 
--- two values of a type are the same: of a vector, or of an array element by element, past its count too, where
--- no well sized design reads
-abbrev pub AreSame : Shape → (ℕ → ℕ) → (ℕ → ℕ) → Type 0
-AreSame (shape.Vector width) x y = x 0 ≡ y 0
-AreSame (shape.Array count width) x y = (n : ℕ) → x n ≡ y n
+-- two values of a type are the same: of a vector, or of an array element by element
+abbrev pub AreSame : Names → Shape → (ℕ → ℕ) → (ℕ → ℕ) → Type 0
+AreSame names (shape.Vector width) x y = x 0 ≡ y 0
+AreSame names (shape.Array count width) x y = (n : ℕ) → n < elements names (shape.Array count width) → x n ≡ y n
 
 -- a state gives each register a value of its type
 abbrev pub IsState : SourceTree → Values → Type 0
@@ -40,8 +39,8 @@ pub record IsGiven (S : SourceTree) (inp : Values) : Type 0 where
 -- a cycle from a state under an input: a valuation that satisfies the equations and agrees with both
 pub record Cycle (S : SourceTree) (s inp v : Values) : Type 0 where
   pub holds : Holds S inp v
-  pub registers : (x : Signal) → IsSignal S register x → AreSame x.type (v x.path) (s x.path)
-  pub inputs : (x : Signal) → IsSignal S input x → AreSame x.type (v x.path) (inp x.path)
+  pub registers : (x : Signal) → IsSignal S register x → AreSame x.names x.type (v x.path) (s x.path)
+  pub inputs : (x : Signal) → IsSignal S input x → AreSame x.names x.type (v x.path) (inp x.path)
 
 -- what an update says of the next state: a register has the assigned value of this cycle; an array has it at
 -- the place, and every other element is as before
@@ -63,9 +62,9 @@ pub record Run (S : SourceTree) (inputs : List Values) (s v : ℕ → Values) : 
 -- two agree on them. Behind a cycle there is a state, and what stands behind any two is one and the same, and a state
 pub record HasOneCycle (S : SourceTree) (s inp : Values) : Type 0 where
   pub cycle : (v : Values) × Cycle S s inp v
-  pub same : (v w : Values) → Cycle S s inp v → Cycle S s inp w → (x : Signal) → IsIn x (signals S) → x.kind ≢ clock → AreSame x.type (v x.path) (w x.path)
+  pub same : (v w : Values) → Cycle S s inp v → Cycle S s inp w → (x : Signal) → IsIn x (signals S) → x.kind ≢ clock → AreSame x.names x.type (v x.path) (w x.path)
   pub fits : (v : Values) → Cycle S s inp v → (x : Signal) → IsIn x (signals S) → x.kind ≢ clock → Suits x.names x.type (v x.path)
   pub next : (v : Values) → Cycle S s inp v → (s' : Values) × Next S v s'
   pub same_next : (v w s' t' : Values) → Cycle S s inp v → Cycle S s inp w → Next S v s' → Next S w t' →
-      (x : Signal) → IsSignal S register x → AreSame x.type (s' x.path) (t' x.path)
+      (x : Signal) → IsSignal S register x → AreSame x.names x.type (s' x.path) (t' x.path)
   pub state : (v s' : Values) → Cycle S s inp v → Next S v s' → IsState S s'
