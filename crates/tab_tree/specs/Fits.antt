@@ -1,5 +1,5 @@
--- Which tables suit a design: no rule of tables is broken. Each field of `IsFitting` is a kind of
--- fault that doesn't occur.
+-- Which tables suit a design: no rule of tables is broken. Each field of `IsFitting` asks at least that
+-- faults of one kind don't occur; together they ask that none does.
 use Rattle.std.specs.Prelude.{◌≡◌, ◌≢◌, ◌⊎◌, ℕ, ◌≤◌, Bool, true, false, ◌&&◌, ◌||◌, nat_eq, cond, List, [], ◌∷◌, ◌++◌, length, map, Option, Some, None, is_some}
 use Rattle.std.specs.List.{AllByRecursion}
 use Rattle.lola_tree.specs.declared.named.Ref.{Ref}
@@ -10,11 +10,14 @@ use Rattle.lola_tree.specs.declared.module.Way.TheVariants.{Outward}
 use Rattle.lola_tree.specs.Tree.{Tree, number, whole, bit, slice, index, concat, negation, binary, choice, Parts, no_part, one_part, ModuleTree, SourceTree}
 use Rattle.lola_tree.specs.Width.{is_width, width}
 use Rattle.lola_bits.specs.Lists.{IsIn, AreDistinct}
-use Rattle.lola_tree.specs.Cycle.{IsRoot, IsInput}
+use Rattle.lola_tree.specs.Cycle.{IsRoot}
+use Rattle.lola_tree.specs.design.Signals.{input, Signal}
+use Rattle.lola_tree.specs.design.Cycle.{IsSignal}
 use Rattle.tab_tree.specs.declared.table.Active.{Active}
 use Rattle.tab_tree.specs.declared.table.BusRoles.{BusRoles}
 use Rattle.tab_tree.specs.Table.{RolesTree, StateTree, LetTree, SetTree, TurnsTree, AccessTree, idle_row, take_row, load_row, store_row, fetch_row, PhaseTree, InsideTree, ClassTree, TableTree}
-use Rattle.tab_tree.specs.Names.{Form, vector_form, array_form, Names, look, are_digits, is_empty, scope_by, shape_form, state_form}
+use Rattle.lola_tree.specs.Value.{or_zero}
+use Rattle.tab_tree.specs.Names.{Form, vector_form, array_form, form_element, Names, look, fixed, are_digits, is_empty, scope_by, shape_form, state_form}
 use Rattle.tab_tree.specs.Registers.{registers_of, port_width}
 use Rattle.tab_tree.specs.Step.{fits}
 use Rattle.tab_tree.specs.Placed.{Placed, word_width, placed}
@@ -126,14 +129,14 @@ pub record IsKnowing (S : SourceTree) (T : TableTree) : Type 0 where
   pub starts : AllByRecursion (SetsState T) T.starts
   pub sets : EachSet (SetsState T) T
 
--- an array state is one whole register array with the same count and width
-abbrev pub IsWhole : SourceTree → Tree → Form → Type 0
-IsWhole S (whole of) form = (of.source ≡ true) × (registers_of S of.path ≡ Some form)
-IsWhole S other form = ⊥
+-- an array state is one whole register array with the same count
+abbrev pub IsWhole : SourceTree → Tree → ℕ → Type 0
+IsWhole S (whole of) count = (of.source ≡ true) × ((width : ℕ) × (registers_of S of.path ≡ Some (array_form count width)))
+IsWhole S other count = ⊥
 
 abbrev pub ShowsArray : SourceTree → Shape → Tree → Type 0
 ShowsArray S (Vector width) e = Unit {0}
-ShowsArray S (Array count width) e = IsWhole S e (shape_form (Array count width))
+ShowsArray S (Array count width) e = IsWhole S e (or_zero (fixed count))
 
 -- vectors are read and arrays are indexed; START sets no array; an accumulator is a vector
 abbrev pub TurnsAreVectors : Option TurnsTree → Type 0
@@ -149,10 +152,11 @@ pub record IsOfKinds (S : SourceTree) (T : TableTree) : Type 0 where
 
 -- ---- roles
 
--- an IN port of the root but the clock, with this width
+-- an IN port of the root but the clock
 pub record IsInPort (S : SourceTree) (name : List ℕ) : Type 0 where
-  pub type : Shape
-  pub input : IsInput S (name ∷ []) type
+  pub signal : Signal
+  pub listed : IsSignal S input signal
+  pub leads : signal.path ≡ name ∷ []
   pub vector : port_width S name ≢ None
 
 -- an OUT port of the root
@@ -222,9 +226,19 @@ abbrev pub TurnsHaveWidth : Option TurnsTree → Type 0
 TurnsHaveWidth None = Unit {0}
 TurnsHaveWidth (Some t) = IsFormWidth (shape_form t.shape)
 
+-- the elements of an array state and of its registers have one width
+abbrev pub HasElements : SourceTree → Tree → ℕ → Type 0
+HasElements S (whole of) width = form_element (registers_of S of.path) ≡ Some width
+HasElements S other width = Unit {0}
+
+abbrev pub ArrayHasWidth : SourceTree → Shape → Tree → Type 0
+ArrayHasWidth S (Vector width) e = Unit {0}
+ArrayHasWidth S (Array count width) e = HasElements S e (or_zero (fixed width))
+
 pub record HasWidths (S : SourceTree) (T : TableTree) : Type 0 where
   pub exprs : AllByRecursion (λ (e : Placed). HasWidth e.wanted (width (scope_by e.names) e.expr)) (placed S T)
   pub states : AllByRecursion (λ (row : StateTree). IsFormWidth (shape_form row.shape)) T.states
+  pub arrays : AllByRecursion (λ (row : StateTree). ArrayHasWidth S row.shape row.shown) T.states
   pub turns : EachInside (λ c b. AllByRecursion (λ (phase : PhaseTree). TurnsHaveWidth phase.turns) b.phases) T
 
 -- ---- patterns

@@ -9,7 +9,8 @@ use Rattle.lola_tree.specs.declared.named.Shape.{Shape}
 use Rattle.lola_tree.specs.declared.named.Shape.TheVariants.{Vector, Array}
 use Rattle.lola_tree.specs.Tree.{Tree, whole, SourceTree}
 use Rattle.lola_tree.specs.Value.{or_zero, Values}
-use Rattle.lola_tree.specs.Cycle.{IsState, IsGiven, Cycle, Next, Run, input_at}
+use Rattle.lola_tree.specs.Cycle.{input_at}
+use Rattle.lola_tree.specs.design.Cycle.{IsState, IsGiven, Cycle, Next, Run}
 use Rattle.tab_tree.specs.declared.table.Active.{Active}
 use Rattle.tab_tree.specs.declared.table.BusRoles.{BusRoles}
 use Rattle.tab_tree.specs.declared.value.StateValue.{StateValue}

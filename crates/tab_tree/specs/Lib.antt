@@ -5,4 +5,5 @@ pub mod Placed
 pub mod Print
 pub mod Registers
 pub mod Step
+pub mod Suits
 pub mod Table

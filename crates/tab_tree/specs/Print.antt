@@ -1,9 +1,9 @@
 -- The text that a table is printed as: its tokens in the order of the grammar, each with a blank behind
 -- it, but that a line feed stands behind `;` and behind the `.` at the end. Roles stand in the order of
 -- the grammar.
-use Rattle.std.specs.Prelude.{ℕ, Bool, true, false, cond, ◌&&◌, List, [], ◌∷◌, ◌++◌, Option, Some, None, nat_eq, codes}
+use Rattle.std.specs.Prelude.{ℕ, Bool, false, cond, ◌&&◌, List, [], ◌∷◌, ◌++◌, Option, Some, None, nat_eq, codes}
 use Rattle.std.specs.Option.{is_none}
-use Rattle.lola_tree.specs.Tree.{Tree, number, whole, bit, slice, index, concat, negation, binary, choice}
+use Rattle.lola_tree.specs.Tree.{Tree, number}
 use Rattle.lola_tree.specs.Print.{name_text, number_text, expr_text, shape_text}
 use Rattle.tab_tree.specs.declared.table.Active.{Active}
 use Rattle.tab_tree.specs.declared.table.BusRoles.{BusRoles}
