@@ -58,6 +58,7 @@ IsNextOf Input next ns = ns ≡ []
 IsNextOf Pad next ns = ns ≡ []
 IsNextOf Wire next ns = ns ≡ []
 
-pub record IsNext (F : FlatTree) (N : Env ℕ) (after : List (List ℕ)) : Type 0 where
+-- registers read nothing from outside
+pub record IsNext (F : FlatTree) (N after : List (List ℕ)) : Type 0 where
   pub long : length after ≡ length F.signals
-  pub each : (n : ℕ) (s : SignalTree) → IsSignal F n s → IsNextOf s.kind (next_elements (widths_of F) N s.place s.equation (get_or N.signals n [])) (get_or after n [])
+  pub each : (n : ℕ) (s : SignalTree) → IsSignal F n s → IsNextOf s.kind (next_elements (widths_of F) (env N []) s.place s.equation (get_or N n [])) (get_or after n [])

@@ -1,0 +1,9 @@
+pub mod Joined
+pub mod Kept
+pub mod Means
+pub mod Loops
+pub mod Cases
+pub mod Placed
+pub mod Ordering
+pub mod NextMeans
+pub mod StateSoFar

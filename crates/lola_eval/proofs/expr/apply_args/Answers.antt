@@ -1,0 +1,10 @@
+use Rattle.std.proofs.Common.{ap, subst, ◌∙◌}
+use Rattle.lola_flat.specs.Tree.{expr_tree}
+use Rattle.lola_flat.specs.Value.{Fits}
+use Rattle.lola_eval.proofs.expr.apply_args.Goals as goal
+
+pub returns-clause-is : goal.returns-clause-is
+returns-clause-is c = ap expr_tree c.requires ∙ c.lists_are_trees.ensures.apply c.args.op c.args.args.now
+
+pub returns-clause-fits : goal.returns-clause-fits
+returns-clause-fits c = λ W f. (subst (Fits W) (ap expr_tree c.requires ∙ c.lists_are_trees.ensures.apply c.args.op c.args.args.now) f).1
