@@ -14,6 +14,7 @@ use Rattle.lola_width.specs.NameFaults.{no_names, doubled_faults, title_faults, 
 use Rattle.lola_width.specs.WidthFaults.{port_widths, const_widths, local_widths, body_widths, width_faults}
 use Rattle.lola_width.specs.AssignmentFaults.{none_taken, taken_with_all, twice, ports_never, locals_never, body_targets, assignment_faults}
 use Rattle.lola_width.specs.Sized.{clock_in, faults_in, pins_in, seen_after, faults_from, IsWellSized}
+use Rattle.lola_regular.specs.Clocked.{seen_behind}
 use Rattle.lola_regular.specs.Written.{IsWrittenModule, IsWritten}
 
 -- no fault of a module, kind by kind
@@ -66,11 +67,6 @@ is_clean seen m none =
       never_ports = a1.0;
       never_locals = a1.1;
     }
-
--- what is seen behind modules in reverse order
-abbrev pub seen_behind : List ModuleTree → Seen
-seen_behind [] = no_module
-seen_behind (m ∷ earlier) = seen_after (seen_behind earlier) m
 
 abbrev pub AllClean : List ModuleTree → Type 0
 AllClean [] = Unit {0}

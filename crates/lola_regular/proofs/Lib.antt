@@ -1,3 +1,10 @@
 pub mod Clean
 pub mod Named
 pub mod Once
+pub mod Ways
+pub mod Targets
+pub mod Exchange
+pub mod Images
+pub mod Assigned
+pub mod Inside
+pub mod Counted

@@ -2,8 +2,16 @@ ghost use Rattle.std.specs.Prelude.{reverse};
 ghost use Rattle.lola_tree.specs.Tree.{SourceTree};
 ghost use Rattle.lola_width.specs.Sized.{IsWellSized};
 ghost use Rattle.lola_design.specs.Once.{AllOnce};
+ghost use Rattle.lola_design.specs.Assigned.{AreAssigned};
+ghost use Rattle.lola_regular.specs.Written.{IsWritten};
 
 /// No name of a module of a well sized source is declared twice.
 pub fn names_are_once()
     ensures { (S : SourceTree) → IsWellSized S → AllOnce (reverse S.modules) }
+{}
+
+/// Each module of a well sized source assigns each of its OUT ports, variables and registers once, drives or
+/// passes on each INOUT port once, and calls each instance with as many arguments as its module has ports.
+pub fn each_is_assigned()
+    ensures { (S : SourceTree) → IsWellSized S → IsWritten S → AreAssigned (reverse S.modules) }
 {}
