@@ -1,18 +1,15 @@
 -- Each module of a well sized source assigns each OUT port, variable and register once, and drives or passes on each
 -- INOUT port once.
-use Rattle.std.proofs.Common.{◌≡◌, ◌≢◌, ℕ, ◌+◌, ◌≤◌, Bool, true, false, not, cond, List, [], ◌∷◌, ◌++◌, map, length, Option, Some, None, refl, sym, ◌∙◌, ap, ap₂, subst, inl, inr, ◌⊎◌, arith}
-use Rattle.std.specs.Prelude.{bytes_eq, if◌then◌else◌, ◌||◌, nat_eq, flat_map}
-use Rattle.std.specs.List.{AllByRecursion}
-use Rattle.std.proofs.lemmas.Bool.{cases_Bool, cond-true, cond-false}
-use Rattle.std.proofs.lemmas.Bool.Decides.{nat_tests}
+use Rattle.std.proofs.Common.{◌≡◌, ℕ, ◌+◌, Bool, true, false, not, cond, List, [], ◌∷◌, ◌++◌, map, Option, Some, None, refl, sym, ◌∙◌, ap, ap₂, subst, inl, inr, ◌⊎◌, arith}
+use Rattle.std.specs.Prelude.{bytes_eq, ◌||◌}
+use Rattle.std.proofs.lemmas.Bool.{cases_Bool}
 use Rattle.std.proofs.lemmas.List.{map-append}
 use Rattle.lola_bits.specs.Lists.{IsIn, AreDistinct}
 use Rattle.lola_bits.specs.Names.{is_among}
-use Rattle.lola_bits.proofs.Lists.{both_none, in_front, in_back, in_either, to_map, distinct_front, distinct_back}
-use Rattle.lola_bits.proofs.Names.{same_name, is_same_name, other_name, among, not_among, is_in}
+use Rattle.lola_bits.proofs.Lists.{both_none, distinct_back}
+use Rattle.lola_bits.proofs.Names.{is_same_name, among, is_in}
 use Rattle.lola_bits.proofs.Tests.{not_both, none_unless}
 use Rattle.lola_tree.specs.declared.named.Named.{Named}
-use Rattle.lola_tree.specs.declared.named.Ref.{Ref}
 use Rattle.lola_tree.specs.declared.named.Shape.{Shape}
 use Rattle.lola_tree.specs.declared.module.Way.{Way}
 use Rattle.lola_tree.specs.declared.module.Way.TheVariants.{Inward, Outward, Both}
@@ -20,21 +17,19 @@ use Rattle.lola_tree.specs.declared.module.Port.{Port}
 use Rattle.lola_tree.specs.declared.module.LocalKind.{LocalKind}
 use Rattle.lola_tree.specs.declared.module.LocalKind.TheVariants.{Reg, Var, Inst}
 use Rattle.lola_tree.specs.declared.module.Local.{Local}
-use Rattle.lola_tree.specs.Tree.{Tree, ActualTree, StmtTree, assignment, call, pad, ModuleTree, SourceTree}
+use Rattle.lola_tree.specs.Tree.{ModuleTree}
 use Rattle.lola_tree.specs.Names.{Entry, port, constant, local, entry_name, entries, Names, names_of, kind_shape}
 use Rattle.lola_tree.specs.Signals.{is_inward, is_outward, name_of_register, register_names}
-use Rattle.lola_width.specs.declared.uses.Use.{Use}
 use Rattle.lola_width.specs.declared.uses.Use.TheVariants as use_
-use Rattle.lola_width.specs.declared.interface.Pin.{Pin}
 use Rattle.lola_width.specs.Interface.{Seen}
-use Rattle.lola_width.specs.NameFaults.{use_faults, is_both, is_variable, is_instance_kind, is_vector, is_array, assigned_shape, stmt_faults, body_faults}
+use Rattle.lola_width.specs.NameFaults.{use_faults, is_both, is_variable, is_instance_kind, is_vector, is_array, assigned_shape}
 use Rattle.lola_width.specs.AssignmentFaults.{Taken, none_taken, taken_with, taken_with_all, never_taken, port_never, ports_never, locals_never, body_targets}
 use Rattle.lola_width.specs.Sized.{clock_in}
 use Rattle.lola_design.specs.Once.{name_count}
 use Rattle.lola_regular.proofs.Clean.{IsClean}
-use Rattle.lola_regular.proofs.Named.{name_count_append, absent_count, present_count, counted_in, distinct_count, are_distinct, names_once, port_names, local_names, port_named, local_named, port_found, local_found}
+use Rattle.lola_regular.proofs.Named.{present_count, counted_in, distinct_count, are_distinct, names_once, local_names, port_named, local_named, port_found, local_found}
 use Rattle.lola_regular.proofs.Ways.{GoodSeen}
-use Rattle.lola_regular.proofs.Targets.{when, one_kept, kept, kept_count, said_entry, pad_entry, instance_entry, IsClass, target_names, suited, own_stmt, own_body, passed_body, body_count, distinct_targets}
+use Rattle.lola_regular.proofs.Targets.{when, one_kept, kept_count, said_entry, pad_entry, instance_entry, IsClass, target_names, suited, own_body, body_count, distinct_targets}
 use Rattle.lola_regular.proofs.Exchange.{by_locals, exchange}
 use Rattle.lola_regular.proofs.Images.{selected, selected_few, selected_in, in_selected, exact, either_some}
 

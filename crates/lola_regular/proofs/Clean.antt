@@ -9,7 +9,7 @@ use Rattle.lola_bits.proofs.Names.{is_same_name}
 use Rattle.lola_tree.specs.Tree.{ModuleTree, SourceTree}
 use Rattle.lola_tree.specs.Names.{names_of, entries}
 use Rattle.lola_width.specs.declared.interface.Pin.{Pin}
-use Rattle.lola_width.specs.Interface.{Seen, no_module, or_first}
+use Rattle.lola_width.specs.Interface.{Seen, or_first}
 use Rattle.lola_width.specs.NameFaults.{no_names, doubled_faults, title_faults, port_faults, local_faults, body_faults, end_faults, used_faults, name_faults}
 use Rattle.lola_width.specs.WidthFaults.{port_widths, const_widths, local_widths, body_widths, width_faults}
 use Rattle.lola_width.specs.AssignmentFaults.{none_taken, taken_with_all, twice, ports_never, locals_never, body_targets, assignment_faults}

@@ -1,10 +1,10 @@
 -- Calls have as many arguments as ports, and so each module of a well sized source is assigned.
-use Rattle.std.proofs.Common.{◌≡◌, ℕ, suc, ◌+◌, ◌≤◌, Bool, true, false, not, cond, List, [], ◌∷◌, ◌++◌, map, length, Option, Some, None, refl, sym, ◌∙◌, ap, ap₂, subst, inl, inr, ◌⊎◌, arith}
-use Rattle.std.specs.Prelude.{bytes_eq, if◌then◌else◌, nat_eq}
+use Rattle.std.proofs.Common.{◌≡◌, ℕ, suc, Bool, true, false, not, List, [], ◌∷◌, length, Option, Some, None, refl, sym, ◌∙◌, ap, subst, inl, inr, arith}
+use Rattle.std.specs.Prelude.{bytes_eq, nat_eq}
 use Rattle.std.specs.List.{AllByRecursion}
 use Rattle.std.proofs.lemmas.Bool.{cases_Bool, cond-true, cond-false}
 use Rattle.std.proofs.lemmas.Bool.Decides.{nat_tests}
-use Rattle.lola_bits.specs.Lists.{IsIn, AreDistinct}
+use Rattle.lola_bits.specs.Lists.{IsIn}
 use Rattle.lola_bits.proofs.Lists.{both_none, in_either}
 use Rattle.lola_bits.proofs.Names.{same_name, is_same_name}
 use Rattle.lola_bits.proofs.Tests.{not_both, none_unless}
@@ -23,14 +23,14 @@ use Rattle.lola_width.specs.WidthFaults.{port_count, args_widths, stmt_widths, b
 use Rattle.lola_width.specs.Sized.{clock_in, pins_in}
 use Rattle.lola_tree.specs.Width.{scope_over}
 use Rattle.lola_design.specs.Once.{name_count}
-use Rattle.lola_design.specs.Assigned.{AreAsMany, CallsFit, AllCallsFit, IsAssigned, AreAssigned}
+use Rattle.lola_design.specs.Assigned.{CallsFit, AllCallsFit, AreAssigned}
 use Rattle.lola_design.specs.Assigned.{port_count as count_of_ports}
 use Rattle.lola_regular.specs.Clocked.{seen_behind}
 use Rattle.lola_regular.specs.Written.{IsWrittenModule}
-use Rattle.lola_regular.proofs.Clean.{IsClean, AllClean, seen_here, seen_further}
+use Rattle.lola_regular.proofs.Clean.{AllClean, seen_here, seen_further}
 use Rattle.lola_regular.proofs.Named.{counted_in, are_distinct, local_named}
 use Rattle.lola_regular.proofs.Ways.{seen_good}
-use Rattle.lola_regular.proofs.Targets.{one_kept, when, said_entry, instance_entry, own_stmt, own_body}
+use Rattle.lola_regular.proofs.Targets.{one_kept, when, said_entry, instance_entry, own_body}
 use Rattle.lola_regular.proofs.Exchange.{by_locals}
 use Rattle.lola_regular.proofs.Assigned.{stored_entry, called_class, class_once, assigned_said, element_said, called_must, only_called, no_way}
 use Rattle.lola_regular.proofs.Inside.{said_once, stored_once, driven_once, nothing_passed}

@@ -1,6 +1,6 @@
 -- The arguments of calls, by statements and by the instances that are called.
-use Rattle.std.proofs.Common.{◌≡◌, ◌≢◌, ℕ, ◌+◌, Bool, true, false, List, [], ◌∷◌, ◌++◌, map, Option, Some, None, refl, sym, ◌∙◌, ap, ap₂, subst, inl, inr, arith}
-use Rattle.std.specs.Prelude.{bytes_eq, if◌then◌else◌}
+use Rattle.std.proofs.Common.{◌≡◌, ◌≢◌, ℕ, ◌+◌, Bool, true, List, [], ◌∷◌, ◌++◌, Option, Some, None, refl, sym, ◌∙◌, ap, ap₂, subst, inl, inr, arith}
+use Rattle.std.specs.Prelude.{bytes_eq}
 use Rattle.std.specs.List.{AllByRecursion}
 use Rattle.std.proofs.lemmas.Bool.{cases_Bool, cond-true, cond-false}
 use Rattle.std.proofs.lemmas.List.{map-append}
@@ -9,22 +9,19 @@ use Rattle.lola_bits.proofs.Lists.{both_none, in_back, to_map, distinct_back}
 use Rattle.lola_bits.proofs.Names.{same_name, is_same_name, other_name}
 use Rattle.lola_tree.specs.declared.named.Named.{Named}
 use Rattle.lola_tree.specs.declared.module.Way.{Way}
-use Rattle.lola_tree.specs.declared.module.LocalKind.{LocalKind}
-use Rattle.lola_tree.specs.declared.module.LocalKind.TheVariants.{Reg, Var, Inst}
 use Rattle.lola_tree.specs.declared.module.Local.{Local}
 use Rattle.lola_tree.specs.Tree.{ActualTree, StmtTree, assignment, call, pad}
 use Rattle.lola_tree.specs.Names.{Entry, port, constant, local, Names}
 use Rattle.lola_tree.specs.design.Calls.{args_of}
-use Rattle.lola_width.specs.declared.fault.SourceFault.{SourceFault}
 use Rattle.lola_width.specs.declared.uses.Use.TheVariants as use_
 use Rattle.lola_width.specs.declared.interface.Pin.{Pin}
 use Rattle.lola_width.specs.Interface.{Seen, kind_pins, instance_pins, listed}
-use Rattle.lola_width.specs.NameFaults.{use_faults, args_faults, is_instance_kind, stmt_faults, body_faults}
-use Rattle.lola_width.specs.AssignmentFaults.{args_targets, stmt_targets, body_targets}
+use Rattle.lola_width.specs.NameFaults.{use_faults, args_faults, stmt_faults, body_faults}
+use Rattle.lola_width.specs.AssignmentFaults.{args_targets, body_targets}
 use Rattle.lola_design.specs.Once.{name_count}
 use Rattle.lola_regular.specs.Written.{IsWrittenArgument, IsWrittenStmt}
 use Rattle.lola_regular.proofs.Named.{name_count_append, local_names}
-use Rattle.lola_regular.proofs.Targets.{way_args, target_names, instance_entry, called_is, passed_stmt, passed_body}
+use Rattle.lola_regular.proofs.Targets.{way_args, target_names, instance_entry, called_is, passed_body}
 
 -- what an instance passes in its call, and all instances
 abbrev pub args_for : Seen → (Way → Bool) → List StmtTree → Local → List (List ℕ)
@@ -49,10 +46,10 @@ same_locals seen w body other (l ∷ ls) same =
     ap₂ (λ (x y : List (List ℕ)). x ++ y) (ap (way_args w (listed (kind_pins seen l.kind))) (same l (inl refl))) (same_locals seen w body other ls (λ k is. same k (inr is)))
 
 -- a call in front, of a name that is none of these instances' or of one of them
-not_called : (name : List ℕ) (args : List ActualTree) (at : ℕ) (body : List StmtTree) (other : List ℕ) → name ≢ other → args_of (call name args at ∷ body) other ≡ args_of body other
+pub not_called : (name : List ℕ) (args : List ActualTree) (at : ℕ) (body : List StmtTree) (other : List ℕ) → name ≢ other → args_of (call name args at ∷ body) other ≡ args_of body other
 not_called name args at body other apart = cond-false (bytes_eq name other) args (args_of body other) (other_name name other apart)
 
-called_here : (name : List ℕ) (args : List ActualTree) (at : ℕ) (body : List StmtTree) (other : List ℕ) → name ≡ other → args_of (call name args at ∷ body) other ≡ args
+pub called_here : (name : List ℕ) (args : List ActualTree) (at : ℕ) (body : List StmtTree) (other : List ℕ) → name ≡ other → args_of (call name args at ∷ body) other ≡ args
 called_here name args at body other same = cond-true (bytes_eq name other) args (args_of body other) (same_name name other same)
 
 one_more : (seen : Seen) (w : Way → Bool) (name : List ℕ) (args : List ActualTree) (at : ℕ) (body : List StmtTree) (pins : List Pin) (ls : List Local) → IsIn name (local_names ls) → AreDistinct (local_names ls) →
@@ -80,10 +77,10 @@ one_more seen w name args at body pins (l ∷ ls) (inr later) distinct none are 
     omega arith
 
 -- without a target of its name an instance has no arguments
-rest_target : (n : List ℕ) (xs ys : List Named) → IsIn n (target_names ys) → IsIn n (target_names (xs ++ ys))
+pub rest_target : (n : List ℕ) (xs ys : List Named) → IsIn n (target_names ys) → IsIn n (target_names (xs ++ ys))
 rest_target n xs ys is = subst (λ (l : List (List ℕ)). IsIn n l) (sym (map-append (λ (t : Named). t.name) xs ys)) (in_back n (target_names xs) (target_names ys) is)
 
-rest_distinct : (xs ys : List Named) → AreDistinct (target_names (xs ++ ys)) → AreDistinct (target_names ys)
+pub rest_distinct : (xs ys : List Named) → AreDistinct (target_names (xs ++ ys)) → AreDistinct (target_names ys)
 rest_distinct xs ys distinct = distinct_back (target_names xs) (target_names ys) (subst (λ (l : List (List ℕ)). AreDistinct l) (map-append (λ (t : Named). t.name) xs ys) distinct)
 
 args_absent : (names : Names) (seen : Seen) (body : List StmtTree) (name : List ℕ) → (IsIn name (target_names (body_targets names seen body)) → ⊥) → args_of body name ≡ []
@@ -93,7 +90,6 @@ args_absent names seen (call other args at ∷ body) name none =
     not_called other args at body name (λ same. none (inl (sym same)))
     ∙ args_absent names seen body name (λ is. none (inr (rest_target name (args_targets args (listed (instance_pins seen (names other)))) (body_targets names seen body) is)))
 args_absent names seen (pad io inner drive release at ∷ body) name none = args_absent names seen body name (λ is. none (inr (inr is)))
-
 
 -- what is an instance is a local name
 pub instance_local : (o : Option Entry) → instance_entry o ≡ true → (l : Local) × (o ≡ Some (local l))

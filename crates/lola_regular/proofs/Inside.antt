@@ -1,17 +1,14 @@
 -- What the calls of instances assign and pass on, by the pins of their modules; and so each module is assigned.
-use Rattle.std.proofs.Common.{◌≡◌, ◌≢◌, ℕ, ◌+◌, ◌≤◌, Bool, true, false, not, cond, List, [], ◌∷◌, ◌++◌, map, length, Option, Some, None, refl, sym, ◌∙◌, ap, ap₂, subst, inl, inr, ◌⊎◌, arith}
-use Rattle.std.specs.Prelude.{bytes_eq, if◌then◌else◌, nat_eq, flat_map}
+use Rattle.std.proofs.Common.{◌≡◌, ℕ, ◌+◌, ◌≤◌, Bool, true, false, not, cond, List, [], ◌∷◌, ◌++◌, map, Option, Some, None, refl, sym, ◌∙◌, ap, ap₂, subst, inl, inr, arith}
+use Rattle.std.specs.Prelude.{bytes_eq, if◌then◌else◌, flat_map}
 use Rattle.std.specs.List.{AllByRecursion}
 use Rattle.std.proofs.lemmas.Bool.{cases_Bool, cond-true, cond-false}
-use Rattle.std.proofs.lemmas.Bool.Decides.{nat_tests}
 use Rattle.std.proofs.lemmas.List.{map-append}
 use Rattle.lola_bits.specs.Lists.{IsIn, AreDistinct}
 use Rattle.lola_bits.specs.Names.{is_among}
-use Rattle.lola_bits.proofs.Lists.{both_none, in_either}
-use Rattle.lola_bits.proofs.Names.{same_name, is_same_name, other_name}
-use Rattle.lola_bits.proofs.Tests.{not_both, none_unless}
+use Rattle.lola_bits.proofs.Lists.{both_none}
+use Rattle.lola_bits.proofs.Names.{same_name, other_name}
 use Rattle.lola_tree.specs.declared.named.Ref.{Ref}
-use Rattle.lola_tree.specs.declared.named.Named.{Named}
 use Rattle.lola_tree.specs.declared.module.Way.{Way}
 use Rattle.lola_tree.specs.declared.module.Way.TheVariants.{Inward, Outward, Both}
 use Rattle.lola_tree.specs.declared.module.Port.{Port}
@@ -19,7 +16,7 @@ use Rattle.lola_tree.specs.declared.module.LocalKind.{LocalKind}
 use Rattle.lola_tree.specs.declared.module.LocalKind.TheVariants.{Reg, Var, Inst}
 use Rattle.lola_tree.specs.declared.module.Local.{Local}
 use Rattle.lola_tree.specs.Tree.{Tree, number, whole, bit, slice, index, concat, negation, binary, choice, ActualTree, StmtTree, assignment, call, pad, ModuleTree}
-use Rattle.lola_tree.specs.Names.{Entry, port, constant, local, entry_name, entries, Names, names_of, first_name, ref_name}
+use Rattle.lola_tree.specs.Names.{Entry, port, constant, local, entry_name, entries, Names, names_of, first_name}
 use Rattle.lola_tree.specs.Value.{Path}
 use Rattle.lola_tree.specs.Signals.{is_inward, is_outward, register_names}
 use Rattle.lola_tree.specs.design.Places.{Pads, pad_of, way_pad, passed_pads, Caller}
@@ -30,24 +27,20 @@ use Rattle.lola_width.specs.declared.interface.Pin.{Pin}
 use Rattle.lola_width.specs.Interface.{Seen, kind_pins, instance_pins, listed, pins_of}
 use Rattle.lola_width.specs.Interface.{bare_name as bare_ref}
 use Rattle.lola_width.specs.NameFaults.{use_faults, is_both, is_variable, bare_faults, clock_faults, way_faults, arg_faults, args_faults, expr_faults, stmt_faults, body_faults}
-use Rattle.lola_width.specs.WidthFaults.{port_count, args_widths, stmt_widths, body_widths}
-use Rattle.lola_width.specs.AssignmentFaults.{none_taken, body_targets}
-use Rattle.lola_width.specs.Sized.{clock_in, pins_in}
-use Rattle.lola_tree.specs.Width.{scope_over}
+use Rattle.lola_width.specs.Sized.{clock_in}
 use Rattle.lola_design.specs.Paths.{one_if, count}
 use Rattle.lola_design.specs.Once.{name_count}
 use Rattle.lola_design.specs.Drives.{pad_names}
-use Rattle.lola_design.specs.Assigned.{out_way, out_ports, out_args, pad_paths, var_path, var_paths, reg_path, reg_paths, said_by, stored_by, driven_by, outs_inside, pads_inside, of_kind, of_locals, way_names, both_names, AreAsMany, CallsFit, AllCallsFit, IsAssigned, AreAssigned}
-use Rattle.lola_design.specs.Assigned.{port_count as count_of_ports}
+use Rattle.lola_design.specs.Assigned.{out_way, out_ports, out_args, pad_paths, var_path, var_paths, reg_path, reg_paths, said_by, stored_by, driven_by, outs_inside, pads_inside, of_kind, of_locals, way_names, both_names}
 use Rattle.lola_regular.specs.Clocked.{seen_behind}
-use Rattle.lola_regular.specs.Written.{IsWrittenTree, IsOneName, IsWrittenArgument, IsWrittenStmt, IsWrittenModule}
+use Rattle.lola_regular.specs.Written.{IsWrittenTree, IsOneName, IsWrittenArgument, IsWrittenModule}
 use Rattle.lola_regular.proofs.Clean.{IsClean, AllClean, seen_here, seen_further}
-use Rattle.lola_regular.proofs.Named.{name_count_append, present_count, counted_in, are_distinct, names_once, port_names, local_named}
+use Rattle.lola_regular.proofs.Named.{name_count_append, present_count, are_distinct, local_named}
 use Rattle.lola_regular.proofs.Ways.{GoodPins, GoodSeen, seen_good}
-use Rattle.lola_regular.proofs.Targets.{when, one_kept, kept, kept_count, said_entry, pad_entry, instance_entry, way_args, target_names, bare_same, bare_is, own_stmt, own_body, passed_body, body_count, distinct_targets}
-use Rattle.lola_regular.proofs.Exchange.{args_for, by_locals, no_args, args_free, args_written}
-use Rattle.lola_regular.proofs.Images.{path_count_append, same_images, selected, in_selected}
-use Rattle.lola_regular.proofs.Assigned.{is_register_kind, stored_entry, said_class, pad_class, stored_class, called_class, targets_in, target_is, class_once, out_names, var_names, inout_names, reg_names, said_count, pad_count, stored_count, is_register, assigned_said, element_said, said_must, pad_must, called_must, register_must, no_way}
+use Rattle.lola_regular.proofs.Targets.{when, one_kept, said_entry, pad_entry, way_args, bare_same, bare_is, own_stmt, own_body}
+use Rattle.lola_regular.proofs.Exchange.{args_for, by_locals, args_free, args_written}
+use Rattle.lola_regular.proofs.Images.{path_count_append, same_images}
+use Rattle.lola_regular.proofs.Assigned.{is_register_kind, stored_entry, said_class, pad_class, stored_class, class_once, out_names, var_names, inout_names, reg_names, said_count, pad_count, stored_count, is_register, assigned_said, element_said, said_must, pad_must, register_must, no_way}
 
 -- a name of a module at a path
 abbrev pub at_path : Path → List ℕ → Path

@@ -8,3 +8,4 @@ pub mod Images
 pub mod Assigned
 pub mod Inside
 pub mod Counted
+pub mod Clocks

@@ -1,12 +1,11 @@
 -- The targets of a body, by what they stand for: what is assigned, what is driven, what is stored, and what is called.
-use Rattle.std.proofs.Common.{◌≡◌, ℕ, ◌+◌, ◌≤◌, Bool, true, false, cond, List, [], ◌∷◌, ◌++◌, map, Option, Some, None, refl, sym, ◌∙◌, ap, ap₂, subst, inl, inr, arith, append_assoc}
-use Rattle.std.specs.Prelude.{bytes_eq, if◌then◌else◌, ◌||◌}
-use Rattle.std.specs.List.{AllByRecursion}
-use Rattle.std.proofs.lemmas.Bool.{cases_Bool, cond-true, cond-false}
+use Rattle.std.proofs.Common.{◌≡◌, ℕ, ◌+◌, Bool, true, false, cond, List, [], ◌∷◌, ◌++◌, map, Option, Some, None, refl, sym, ◌∙◌, ap, ap₂, subst, inl, inr, arith, append_assoc}
+use Rattle.std.specs.Prelude.{bytes_eq, if◌then◌else◌}
+use Rattle.std.proofs.lemmas.Bool.{cases_Bool, cond-false}
 use Rattle.std.proofs.lemmas.List.{append-nil, map-append}
 use Rattle.lola_bits.specs.Lists.{IsIn, AreDistinct}
 use Rattle.lola_bits.proofs.Lists.{both_none}
-use Rattle.lola_bits.proofs.Names.{same_name, is_same_name, other_name}
+use Rattle.lola_bits.proofs.Names.{same_name, is_same_name}
 use Rattle.lola_bits.proofs.Tests.{not_both, or_neither, none_unless, none_where}
 use Rattle.lola_tree.specs.declared.named.Named.{Named}
 use Rattle.lola_tree.specs.declared.named.Ref.{Ref}
@@ -14,18 +13,17 @@ use Rattle.lola_tree.specs.declared.module.Way.{Way}
 use Rattle.lola_tree.specs.declared.module.Way.TheVariants.{Inward, Outward, Both}
 use Rattle.lola_tree.specs.declared.module.LocalKind.{LocalKind}
 use Rattle.lola_tree.specs.declared.module.LocalKind.TheVariants.{Reg, Var, Inst}
-use Rattle.lola_tree.specs.Tree.{Tree, number, whole, bit, slice, index, concat, negation, binary, choice, ActualTree, StmtTree, assignment, call, pad, ModuleTree}
+use Rattle.lola_tree.specs.Tree.{Tree, number, whole, bit, slice, index, concat, negation, binary, choice, ActualTree, StmtTree, assignment, call, pad}
 use Rattle.lola_tree.specs.Names.{Entry, port, constant, local, Names, first_name, ref_name}
-use Rattle.lola_tree.specs.Signals.{is_inward, is_outward}
+use Rattle.lola_tree.specs.Signals.{is_inward}
 use Rattle.lola_tree.specs.design.Calls.{bare_path, bare_name}
-use Rattle.lola_width.specs.declared.fault.SourceFault.{SourceFault}
 use Rattle.lola_width.specs.declared.uses.Use.{Use}
 use Rattle.lola_width.specs.declared.uses.Use.TheVariants as use_
 use Rattle.lola_width.specs.declared.interface.Pin.{Pin}
-use Rattle.lola_width.specs.Interface.{Seen, instance_pins, listed, first_pin, later_pins}
+use Rattle.lola_width.specs.Interface.{Seen, instance_pins, listed}
 use Rattle.lola_width.specs.Interface.{bare_name as bare_ref}
-use Rattle.lola_width.specs.NameFaults.{suits, use_faults, is_receiver, is_pad, is_both, is_instance, is_instance_kind, is_variable, expr_faults, bare_faults, clock_faults, way_faults, arg_faults, args_faults, stmt_faults, body_faults}
-use Rattle.lola_width.specs.AssignmentFaults.{bare_target, arg_targets, args_targets, stmt_targets, body_targets, Taken, none_taken, taken_with, taken_with_all, again, twice}
+use Rattle.lola_width.specs.NameFaults.{suits, use_faults, is_receiver, is_pad, is_instance, expr_faults, bare_faults, clock_faults, way_faults, arg_faults, args_faults, stmt_faults, body_faults}
+use Rattle.lola_width.specs.AssignmentFaults.{bare_target, arg_targets, args_targets, stmt_targets, body_targets, Taken, taken_with, again, twice}
 use Rattle.lola_design.specs.Paths.{one_if}
 use Rattle.lola_design.specs.Once.{name_count}
 use Rattle.lola_regular.proofs.Named.{name_count_append}

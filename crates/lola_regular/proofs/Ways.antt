@@ -1,9 +1,9 @@
 -- The clock of a well sized module is an IN port, and the pins of a module that are clocks are inward.
-use Rattle.std.proofs.Common.{◌≡◌, ℕ, Bool, true, false, cond, List, [], ◌∷◌, ◌++◌, map, Option, Some, None, refl, sym, ap, ◌∙◌, subst, inl, inr}
-use Rattle.std.specs.Prelude.{◌&&◌, bytes_eq}
+use Rattle.std.proofs.Common.{◌≡◌, ℕ, Bool, true, false, cond, List, [], ◌∷◌, Option, Some, None, refl, sym, ap, ◌∙◌, subst, inl, inr}
+use Rattle.std.specs.Prelude.{bytes_eq}
 use Rattle.std.specs.List.{AllByRecursion}
 use Rattle.std.proofs.lemmas.Bool.{cases_Bool, and_parts}
-use Rattle.lola_bits.specs.Lists.{IsIn, AreDistinct}
+use Rattle.lola_bits.specs.Lists.{IsIn}
 use Rattle.lola_bits.proofs.Names.{is_same_name}
 use Rattle.lola_tree.specs.declared.named.Ref.{Ref}
 use Rattle.lola_tree.specs.declared.module.Way.{Way}
@@ -13,10 +13,10 @@ use Rattle.lola_tree.specs.declared.module.LocalKind.{LocalKind}
 use Rattle.lola_tree.specs.declared.module.LocalKind.TheVariants.{Reg, Var, Inst}
 use Rattle.lola_tree.specs.declared.module.Local.{Local}
 use Rattle.lola_tree.specs.Tree.{Tree, ActualTree, StmtTree, assignment, call, pad, ModuleTree}
-use Rattle.lola_tree.specs.Names.{Entry, port, constant, local, entry_name, entries, Names, names_of, ref_name}
+use Rattle.lola_tree.specs.Names.{Entry, port, constant, local, Names, names_of, ref_name}
 use Rattle.lola_tree.specs.Signals.{is_inward}
 use Rattle.lola_width.specs.declared.interface.Pin.{Pin}
-use Rattle.lola_width.specs.Interface.{Seen, or_first, instance_pins, listed, first_pin, later_pins, is_bit, is_clock_port, clock_named, kind_clock, locals_clock, bare_name, bare_clock, arg_clock, args_clock, stmt_clock, body_clock, module_clock, is_clock, pin_of, pins_of}
+use Rattle.lola_width.specs.Interface.{Seen, or_first, instance_pins, listed, first_pin, later_pins, is_bit, is_clock_port, clock_named, kind_clock, locals_clock, bare_name, bare_clock, arg_clock, args_clock, stmt_clock, body_clock, is_clock, pins_of}
 use Rattle.lola_width.specs.Sized.{clock_in, pins_in}
 use Rattle.lola_regular.specs.Clocked.{seen_behind}
 use Rattle.lola_regular.proofs.Clean.{IsClean, AllClean, seen_here, seen_further}
