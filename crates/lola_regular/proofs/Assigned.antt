@@ -226,7 +226,7 @@ said_where m n (Some (local l)) is said =
     let f = local_found m n l is in
     inr (subst (λ (x : List ℕ). IsIn x (var_names m.locals)) (sym f.1) (in_selected (λ (l : Local). is_variable l.kind) (λ (l : Local). l.name) l m.locals f.0 said))
 
-pad_where : (m : ModuleTree) (n : List ℕ) (o : Option Entry) → names_of m n ≡ o → pad_entry o ≡ true → IsIn n (inout_names m.ports)
+pub pad_where : (m : ModuleTree) (n : List ℕ) (o : Option Entry) → names_of m n ≡ o → pad_entry o ≡ true → IsIn n (inout_names m.ports)
 pad_where m n None is said = absurd (cc)
 pad_where m n (Some (port p)) is said =
     let f = port_found m n p is in

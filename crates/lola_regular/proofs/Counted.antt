@@ -8,6 +8,7 @@ use Rattle.lola_bits.specs.Lists.{IsIn}
 use Rattle.lola_bits.proofs.Lists.{both_none, in_either}
 use Rattle.lola_bits.proofs.Names.{same_name, is_same_name}
 use Rattle.lola_bits.proofs.Tests.{not_both, none_unless}
+use Rattle.lola_tree.specs.declared.named.Named.{Named}
 use Rattle.lola_tree.specs.declared.module.Port.{Port}
 use Rattle.lola_tree.specs.declared.module.LocalKind.{LocalKind}
 use Rattle.lola_tree.specs.declared.module.LocalKind.TheVariants.{Reg, Var, Inst}
@@ -17,8 +18,8 @@ use Rattle.lola_tree.specs.Names.{Entry, local, Names, names_of}
 use Rattle.lola_tree.specs.design.Calls.{args_of}
 use Rattle.lola_width.specs.declared.uses.Use.TheVariants as use_
 use Rattle.lola_width.specs.declared.interface.Pin.{Pin}
-use Rattle.lola_width.specs.Interface.{Seen, instance_pins, listed, pins_of}
-use Rattle.lola_width.specs.NameFaults.{use_faults, expr_faults, stmt_faults, body_faults}
+use Rattle.lola_width.specs.Interface.{Seen, kind_pins, instance_pins, listed, pins_of}
+use Rattle.lola_width.specs.NameFaults.{use_faults, is_instance_kind, expr_faults, stmt_faults, body_faults}
 use Rattle.lola_width.specs.WidthFaults.{port_count, args_widths, stmt_widths, body_widths}
 use Rattle.lola_width.specs.Sized.{clock_in, pins_in}
 use Rattle.lola_tree.specs.Width.{scope_over}
@@ -90,7 +91,7 @@ call_in names seen clock (pad io inner drive release at ∷ body) n none sized i
     let wide = both_none (stmt_widths names seen (pad io inner drive release at)) (body_widths names seen body) sized in
     call_in names seen clock body n two.1 wide.1 is
 
-pins_long : (names : Names) (clock : Option (List ℕ)) (ports : List Port) → length (pins_of names clock ports) ≡ length ports
+pub pins_long : (names : Names) (clock : Option (List ℕ)) (ports : List Port) → length (pins_of names clock ports) ≡ length ports
 pins_long names clock [] = refl
 pins_long names clock (p ∷ ports) = ap suc (pins_long names clock ports)
 
@@ -130,6 +131,18 @@ local_fits earlier m clean l is = by_kind l.kind (local_named m l (are_distinct 
       let c = instance_called earlier m clean l.name (ap instance_entry named) in
       ports_counted earlier clean.1 of.name c.0 (length (args_of m.body l.name))
       (subst (λ (o : Option Entry). port_count c.0 (instance_pins seen o) (length (args_of m.body l.name)) ≡ []) named c.1)
+
+-- as many as its module has ports
+pub instance_many : (earlier : List ModuleTree) (m : ModuleTree) → AllClean (m ∷ earlier) → (l : Local) (of : Named) → IsIn l m.locals → l.kind ≡ Inst of → (pins : List Pin) →
+    seen_behind earlier of.name ≡ Some pins → length pins ≡ length (args_of m.body l.name)
+instance_many earlier m clean l of is kind pins here =
+    let seen = seen_behind earlier in
+    let named = local_named m l (are_distinct m clean.0.doubled) is in
+    let called : instance_entry (names_of m l.name) ≡ true = ap instance_entry named ∙ ap is_instance_kind kind in
+    let c = instance_called earlier m clean l.name called in
+    let pins_are : instance_pins seen (names_of m l.name) ≡ Some pins = ap (instance_pins seen) named ∙ (ap (kind_pins seen) kind ∙ here) in
+    let fit = subst (λ (o : Option (List Pin)). port_count c.0 o (length (args_of m.body l.name)) ≡ []) pins_are c.1 in
+    equal_is (length pins) (length (args_of m.body l.name)) (none_unless (nat_eq (length pins) (length (args_of m.body l.name))) _ fit)
 
 all_fit : (earlier : List ModuleTree) (m : ModuleTree) (ls : List Local) → ((l : Local) → IsIn l ls → CallsFit earlier m l.kind l.name) → AllCallsFit earlier m ls
 all_fit earlier m [] each = tt

@@ -9,3 +9,5 @@ pub mod Assigned
 pub mod Inside
 pub mod Counted
 pub mod Clocks
+pub mod Standing
+pub mod PadsPassed

@@ -3,6 +3,7 @@ ghost use Rattle.lola_tree.specs.Tree.{SourceTree};
 ghost use Rattle.lola_width.specs.Sized.{IsWellSized};
 ghost use Rattle.lola_design.specs.Once.{AllOnce};
 ghost use Rattle.lola_design.specs.Assigned.{AreAssigned};
+ghost use Rattle.lola_design.specs.Drives.{PadsFit};
 ghost use Rattle.lola_regular.specs.Clocked.{AreClocked};
 ghost use Rattle.lola_regular.specs.Written.{IsWritten};
 
@@ -21,4 +22,10 @@ pub fn each_is_assigned()
 /// clock that its faults are found with, where there is one, and no other name.
 pub fn one_clock()
     ensures { (S : SourceTree) → IsWellSized S → AreClocked (reverse S.modules) }
+{}
+
+/// An INOUT port of an instance of a well sized source stands for an INOUT port of the module that calls it,
+/// and what is driven is an INOUT port.
+pub fn pads_are_pads()
+    ensures { (S : SourceTree) → IsWellSized S → IsWritten S → PadsFit S }
 {}

@@ -9,4 +9,4 @@
 
 mod laws;
 
-pub use laws::{each_is_assigned, names_are_once, one_clock};
+pub use laws::{each_is_assigned, names_are_once, one_clock, pads_are_pads};
