@@ -114,9 +114,12 @@ pub record InsideTree : Type 0 where
   pub phases : List PhaseTree
   pub sets : List SetTree
 
+abbrev pub steps_tree : Inside → InsideTree
+steps_tree b = record { lets = map let_tree b.lets; phases = map phase_tree b.phases; sets = map set_tree b.sets }
+
 abbrev pub inside_tree : Option Inside → Option InsideTree
 inside_tree None = None
-inside_tree (Some b) = Some (record { lets = map let_tree b.lets; phases = map phase_tree b.phases; sets = map set_tree b.sets })
+inside_tree (Some b) = Some (steps_tree b)
 
 -- a class of words: its pattern is bytes 0, 1 and -, the highest bit first; one without steps is OUTSIDE
 pub record ClassTree : Type 0 where

@@ -1,0 +1,4 @@
+mod Digits
+mod Elements
+mod Means
+mod Runs

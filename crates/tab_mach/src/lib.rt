@@ -1,0 +1,13 @@
+//! One instruction of a table.
+//!
+//! `step` takes the states that a programmer sees, the instruction word and the answers of the outside,
+//! and gives the states after the instruction, the next word and what each cycle does to memory:
+//! exactly what `specs/Step.antt` of `tab_tree` says. Expressions are evaluated over vectors with the
+//! operators of `lola_bits`. How a design does it is not known here.
+#![tactic(auto)]
+
+mod evaluate;
+mod known;
+mod vectors;
+
+pub use tab_tree::{Access, Answer};
