@@ -2,6 +2,10 @@
 use Rattle.std.proofs.Common.{◌≡◌, ℕ, suc, ◌+◌, ◌*◌, ◌≤◌, Bool, true, false, List, [], ◌∷◌, ◌++◌, length, map, Option, Some, None, refl, sym, ap, ap₂, ◌∙◌, subst, arith, inl, inr, ◌⊎◌}
 use Rattle.std.proofs.lemmas.List.{map-append}
 use Rattle.std.specs.Prelude.{filter, ◌&&◌, not, string_bytes, bytes_eq}
+use Rattle.lola_bits.specs.Lists.{IsIn, AreDistinct}
+use Rattle.lola_bits.specs.Names.{is_among}
+use Rattle.lola_bits.proofs.Lists.{from_map, to_map, from_filter, distinct_front, distinct_back}
+use Rattle.lola_bits.proofs.Names.{same_name, is_same_name}
 use Rattle.lola_tree.specs.declared.named.Shape.{Shape}
 use Rattle.lola_tree.specs.declared.named.Shape.TheVariants as shape
 use Rattle.lola_tree.specs.declared.module.Port.{Port}
@@ -12,16 +16,15 @@ use Rattle.lola_tree.specs.Tree.{ModuleTree, SourceTree}
 use Rattle.lola_tree.specs.Names.{Names, Entry, entry_shape, kind_shape, names_of, count_number, local, port, constant}
 use Rattle.lola_tree.specs.Width.{vector_width, entry_width}
 use Rattle.lola_tree.specs.Value.{Path, Values, or_zero}
-use Rattle.lola_tree.specs.Cycle.{IsIn, IsRoot, IsRegisterOf, IsInputOf, IsRegister, IsInput, FitsIn, IsState, IsGiven, Cycle, Next}
-use Rattle.lola_tree.specs.Signals.{is_inward, is_among, clock_names, name_of_register, input_names, register_names, values_of, root_inputs, root_registers}
+use Rattle.lola_tree.specs.Cycle.{IsRoot, IsRegisterOf, IsInputOf, IsRegister, IsInput, FitsIn, IsState, IsGiven, Cycle, Next}
+use Rattle.lola_tree.specs.Signals.{is_inward, clock_names, name_of_register, input_names, register_names, values_of, root_inputs, root_registers}
 use Rattle.lola_elab.specs.declared.design.Design.{Design}
 use Rattle.lola_elab.specs.declared.flat.Flat.{Flat}
 use Rattle.lola_elab.specs.declared.vector.Vector.{Vector}
 use Rattle.lola_elab.specs.Flat.{flat_number}
-use Rattle.lola_elab.specs.Small.{AreDistinct, IsSmallModule, IsSmallSource}
+use Rattle.lola_elab.specs.Small.{IsSmallModule, IsSmallSource}
 use Rattle.lola_elab.specs.Elaborated.{leaf_names, vector_names, vector_widths, leaf_widths, Elaborates}
 use Rattle.lola_elab.proofs.Entries.{port_named, local_named, entry_names}
-use Rattle.lola_elab.proofs.Lists.{from_map, to_map, from_filter, distinct_front, distinct_back, same_name, is_same_name}
 use Rattle.lola_elab.proofs.Names.{is_register, is_input, register_listed, input_listed}
 use Rattle.lola_elab.proofs.Roots.{root_is}
 use Rattle.lola_elab.proofs.Widths.{checked_is, number_in}

@@ -3,9 +3,10 @@ use Rattle.std.proofs.Common.{◌≡◌, ℕ, zero, suc, ◌+◌, ◌<◌, ◌�
 use Rattle.std.specs.Prelude.{slice_get, slice_index_or, ◌&&◌, nat_eq, if◌then◌else◌, string_bytes}
 use Rattle.std.proofs.lemmas.Option.{slice_get_within}
 use Rattle.std.proofs.lemmas.List.{length-take-le}
+use Rattle.lola_bits.specs.Lists.{IsIn}
 use Rattle.lola_tree.specs.Tree.{SourceTree}
 use Rattle.lola_tree.specs.Value.{Values}
-use Rattle.lola_tree.specs.Cycle.{IsIn, IsState, IsGiven, Cycle, Next}
+use Rattle.lola_tree.specs.Cycle.{IsState, IsGiven, Cycle, Next}
 use Rattle.lola_tree.specs.Signals.{values_of, root_inputs, root_registers}
 use Rattle.lola_elab.specs.Logic.{logic_value, bit_number, AreBits}
 use Rattle.lola_elab.specs.Elaborated.{vector_names, vector_widths, HasOneCycle}

@@ -3,8 +3,9 @@ use Rattle.std.proofs.Common.{◌≡◌, ℕ, ◌+◌, ◌<◌, List, [], ◌∷
 use Rattle.std.specs.Prelude.{Result, Err}
 use Rattle.std.specs.List.{AllByRecursion}
 use Rattle.std.proofs.lemmas.List.{take_more, map-append}
-use Rattle.lola_elab.proofs.Lists.{of_all, to_map}
-use Rattle.lola_elab.proofs.Steps.{item_in}
+use Rattle.lola_bits.proofs.All.{of_all}
+use Rattle.lola_bits.proofs.Lists.{to_map}
+use Rattle.lola_bits.proofs.Places.{item_in}
 
 pub take_item : {X : Type 0} (xs : List X) (i : ℕ) (x : X) → i < length xs → x ≡ get_or xs i x → take (i + 1) xs ≡ take i xs ++ x ∷ []
 take_item {X = X} xs i x within is = take_more xs i x within ∙ ap (λ (y : X). take i xs ++ y ∷ []) (sym is)

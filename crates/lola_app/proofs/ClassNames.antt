@@ -1,13 +1,14 @@
 -- What the names of a class mean over the leaves of a design.
 use Rattle.std.proofs.Common.{◌≡◌, ◌≢◌, ℕ, Bool, true, false, List, [], ◌∷◌, ◌++◌, map, Some, None, refl, sym, ap, subst, ◌∙◌, inl, inr, ◌⊎◌}
 use Rattle.std.specs.Prelude.{bytes_eq, string_bytes, if◌then◌else◌, Option, codes}
+use Rattle.lola_bits.specs.Lists.{IsIn}
+use Rattle.lola_bits.proofs.Names.{same_name, is_same_name, other_name}
+use Rattle.lola_bits.proofs.Lists.{in_front, in_back, in_either}
 use Rattle.lola_tree.specs.Value.{Path, Values}
-use Rattle.lola_tree.specs.Cycle.{IsIn}
 use Rattle.lola_elab.specs.declared.scope.Reading.{Reading}
 use Rattle.lola_elab.specs.declared.scope.Reading.TheVariants as reading
 use Rattle.lola_elab.specs.declared.scope.Scope.{Scope}
 use Rattle.lola_elab.specs.Scope.{find, find_path, reading_number}
-use Rattle.lola_elab.proofs.Lists.{same_name, is_same_name, other_name, in_front, in_back, in_either}
 use Rattle.small_tree.specs.Table.{StateTree, ClassTree, PhaseTree, TableTree}
 use Rattle.small_tree.specs.Step.{class_names, bare_value, state_value, loaded_word, loads_first}
 use Rattle.lola_app.specs.declared.states.Shown.{Shown}

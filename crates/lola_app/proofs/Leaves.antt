@@ -3,14 +3,13 @@
 use Rattle.std.proofs.Common.{◌≡◌, ℕ, zero, suc, ◌+◌, ◌<◌, ◌≤◌, ◌^◌, Bool, true, false, List, [], ◌∷◌, ◌++◌, length, map, take, drop, Some, None, refl, sym, ap, ap₂, ◌∙◌, subst, arith, inl, inr}
 use Rattle.std.specs.Prelude.{bytes_eq, nat_eq, slice_get, string_bytes, if◌then◌else◌}
 use Rattle.std.proofs.lemmas.List.{map-append}
+use Rattle.lola_bits.specs.Lists.{IsIn, AreDistinct}
+use Rattle.lola_bits.proofs.Names.{same_name, other_name}
 use Rattle.lola_tree.specs.Value.{Values}
-use Rattle.lola_tree.specs.Cycle.{IsIn}
 use Rattle.lola_tree.specs.Signals.{values_of}
 use Rattle.lola_elab.specs.declared.vector.Vector.{Vector}
 use Rattle.lola_elab.specs.Elaborated.{vector_names, vector_widths}
 use Rattle.lola_elab.specs.Logic.{bit_number, AreBits}
-use Rattle.lola_elab.specs.Small.{AreDistinct}
-use Rattle.lola_elab.proofs.Lists.{same_name, other_name}
 use Rattle.lola_elab.proofs.Widths.{equal_is}
 use Rattle.small_tree.specs.Step.{name_of}
 use Rattle.lola_app.specs.Naming.{IsAt}

@@ -3,9 +3,9 @@ use Rattle.std.proofs.Common.{◌≡◌, ◌≢◌, ℕ, zero, suc, ◌+◌, ◌
 use Rattle.std.specs.Prelude.{bytes_eq}
 use Rattle.std.proofs.lemmas.Option.{slice_get_read, slice_get-map}
 use Rattle.std.specs.Option.{option_map}
-use Rattle.lola_tree.specs.Cycle.{IsIn}
-use Rattle.lola_elab.proofs.Lists.{same_name}
-use Rattle.lola_elab.proofs.Steps.{drop_item}
+use Rattle.lola_bits.specs.Lists.{IsIn}
+use Rattle.lola_bits.proofs.Names.{same_name}
+use Rattle.lola_bits.proofs.Places.{drop_item}
 use Rattle.small_tree.specs.Table.{TableTree}
 use Rattle.lola_app.specs.declared.roles.Roles.{Roles}
 use Rattle.lola_app.specs.Naming.{IsAt}

@@ -1,10 +1,11 @@
 -- What the names of scopes mean over the leaves of a design.
 use Rattle.std.proofs.Common.{◌≡◌, ℕ, zero, suc, ◌+◌, Bool, true, false, List, [], ◌∷◌, ◌++◌, length, map, Some, None, refl, sym, ap, ap₂, ◌∙◌, arith, inl, inr}
 use Rattle.std.specs.Prelude.{bytes_eq, string_bytes, if◌then◌else◌, Option, slice_index_or}
+use Rattle.lola_bits.specs.Lists.{IsIn}
+use Rattle.lola_bits.proofs.Names.{same_name, is_same_name}
 use Rattle.lola_tree.specs.declared.named.Ref.{Ref}
 use Rattle.lola_tree.specs.Tree.{Tree, number, whole, bit, slice, index, concat, negation, binary, choice}
 use Rattle.lola_tree.specs.Value.{Path, Values}
-use Rattle.lola_tree.specs.Cycle.{IsIn}
 use Rattle.lola_tree.specs.Signals.{values_of}
 use Rattle.lola_elab.specs.declared.scope.Reading.{Reading}
 use Rattle.lola_elab.specs.declared.scope.Reading.TheVariants as reading
@@ -15,7 +16,6 @@ use Rattle.lola_elab.specs.Leaves.{shown as entered}
 use Rattle.lola_elab.specs.Logic.{bit_number, AreBits}
 use Rattle.lola_elab.specs.Scope.{find, find_path, reading_of, HasReading, reading_number, Reads}
 use Rattle.lola_elab.specs.Small.{IsSmallExpr}
-use Rattle.lola_elab.proofs.Lists.{same_name, is_same_name}
 use Rattle.small_tree.specs.Table.{StateTree}
 use Rattle.small_tree.specs.Step.{source_names, state_value, table_value}
 use Rattle.lola_app.specs.declared.states.Shown.{Shown}

@@ -1,11 +1,11 @@
 -- Rows that set states, and the states that they name.
 use Rattle.std.proofs.Common.{◌≡◌, ℕ, ◌<◌, Bool, true, false, List, [], ◌∷◌, length, map, drop, get_or, Some, None, refl, sym, ap, ◌∙◌, inl, inr}
 use Rattle.std.specs.Prelude.{bytes_eq, string_bytes, if◌then◌else◌, Option}
+use Rattle.lola_bits.specs.Lists.{IsIn}
+use Rattle.lola_bits.proofs.Names.{same_name, is_same_name}
+use Rattle.lola_bits.proofs.Places.{drop_item}
 use Rattle.lola_tree.specs.declared.named.Ref.{Ref}
 use Rattle.lola_tree.specs.Tree.{tree}
-use Rattle.lola_tree.specs.Cycle.{IsIn}
-use Rattle.lola_elab.proofs.Lists.{same_name, is_same_name}
-use Rattle.lola_elab.proofs.Steps.{drop_item}
 use Rattle.small_tree.specs.declared.table.SetRow.{SetRow}
 use Rattle.small_tree.specs.Table.{set_tree}
 use Rattle.small_tree.specs.Step.{set_value, table_value}

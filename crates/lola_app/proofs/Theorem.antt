@@ -3,10 +3,11 @@ use Rattle.std.proofs.Common.{◌≡◌, ℕ, zero, suc, ◌-◌, ◌<◌, ◌�
 use Rattle.std.specs.Prelude.{flat_map}
 use Rattle.std.specs.List.{AllByRecursion}
 use Rattle.std.proofs.lemmas.List.{length-take-le}
+use Rattle.lola_bits.specs.Lists.{IsIn}
 use Rattle.lola_tree.specs.declared.named.Ref.{Ref}
 use Rattle.lola_tree.specs.Tree.{SourceTree}
 use Rattle.lola_tree.specs.Value.{Values}
-use Rattle.lola_tree.specs.Cycle.{IsIn, IsState, IsGiven, Cycle, Next, Run, input_at}
+use Rattle.lola_tree.specs.Cycle.{IsState, IsGiven, Cycle, Next, Run, input_at}
 use Rattle.lola_elab.specs.Small.{IsSmallSource}
 use Rattle.small_tree.specs.Table.{StateTree, SetTree, ClassTree, TableTree}
 use Rattle.small_tree.specs.Step.{Arch, Answer, IsClass, fits, source_names, no_names, class_names, state_value, set_value, set_states, cycles_of, answer_at, loaded_word, Boundary, first, after, Access, idle, table_value}

@@ -4,11 +4,11 @@ use Rattle.std.specs.Prelude.{nat_eq, min, slice_index_or}
 use Rattle.std.proofs.lemmas.List.{length-take, get_or-append_right}
 use Rattle.std.proofs.Math.Nat.{div-div-eq-div-mul}
 use Rattle.std.proofs.lemmas.Nat.{pow-add}
-use Rattle.lola_alg.specs.Means.{number_of}
+use Rattle.lola_bits.specs.BitLists.{number_of}
+use Rattle.lola_bits.proofs.Places.{drop_item}
 use Rattle.lola_elab.specs.declared.flat.Flat.{Flat}
 use Rattle.lola_elab.specs.declared.vector.Vector.{Vector}
 use Rattle.lola_elab.specs.Elaborated.{vector_widths}
-use Rattle.lola_elab.proofs.Steps.{drop_item}
 use Rattle.lola_elab.proofs.Widths.{equal_is}
 use Rattle.lola_app.specs.declared.obligation.Which.{Which}
 use Rattle.lola_app.specs.declared.obligation.Which.TheVariants as which

@@ -1,6 +1,6 @@
 -- The vectors of a cycle as lists of bits, the lowest first.
 use Rattle.std.specs.Prelude.{◌≡◌, ℕ, Bool, List, map, length}
-use Rattle.lola_alg.specs.Means.{number_of}
+use Rattle.lola_bits.specs.BitLists.{number_of}
 use Rattle.lola_app.specs.declared.subject.Subject.{Subject}
 
 -- they have these widths and numbers

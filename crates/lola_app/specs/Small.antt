@@ -1,14 +1,14 @@
 -- The small form of a table: what fits the ports and registers of one bit of a design.
 use Rattle.std.specs.Prelude.{◌≡◌, ◌≢◌, ◌⊎◌, ℕ, ◌≤◌, Bool, true, false, nat_eq, nat_le, if◌then◌else◌, ◌&&◌, List, [], ◌∷◌, length, map, filter, codes, Some, None}
 use Rattle.std.specs.List.{AllByRecursion}
+use Rattle.lola_bits.specs.Lists.{IsIn, AreDistinct}
 use Rattle.lola_tree.specs.declared.named.Ref.{Ref}
 use Rattle.lola_tree.specs.Tree.{Tree, number, whole, bit, slice, index, concat, negation, binary, choice, ModuleTree}
 use Rattle.lola_tree.specs.Names.{names_of}
 use Rattle.lola_tree.specs.Width.{entry_width}
 use Rattle.lola_tree.specs.Value.{or_zero}
-use Rattle.lola_tree.specs.Cycle.{IsIn}
 use Rattle.lola_tree.specs.Signals.{input_names, register_names}
-use Rattle.lola_elab.specs.Small.{IsBit, IsSmallExpr, AreDistinct}
+use Rattle.lola_elab.specs.Small.{IsBit, IsSmallExpr}
 use Rattle.small_tree.specs.Table.{StateTree, SetTree, PhaseTree, ClassTree, TableTree}
 use Rattle.small_tree.specs.Step.{loads_first}
 

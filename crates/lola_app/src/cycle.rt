@@ -1,5 +1,5 @@
 ghost use Rattle.std.specs.Prelude.{◌≡◌, ◌++◌, [], ◌∷◌, nat_eq, false, map, length, slice_index_or, Some, IfOk, OnOk};
-ghost use Rattle.lola_alg.specs.Means.{number_of};
+ghost use Rattle.lola_bits.specs.BitLists.{number_of};
 ghost use Rattle.lola_elab.specs.declared.flat.Flat.{Flat as Formula};
 ghost use Rattle.lola_elab.specs.declared.vector.Vector.{Vector as Sized};
 ghost use Rattle.lola_elab.specs.Elaborated.{vector_widths};

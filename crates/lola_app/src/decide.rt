@@ -1,7 +1,7 @@
 ghost use Rattle.std.specs.Prelude.{◌≡◌, ◌≤◌, ◌<◌, ◌^◌, ◌++◌, length, [], ◌∷◌, drop, map, IfOk, OnOk, MatchOption, slice_index_or};
 ghost use Rattle.std.specs.List.{AllByRecursion};
 ghost use Rattle.std.specs.Option.{option_copied};
-ghost use Rattle.lola_alg.specs.Means.{number_of};
+ghost use Rattle.lola_bits.specs.BitLists.{number_of};
 ghost use Rattle.lola_elab.specs.Elaborated.{vector_widths};
 ghost use Rattle.lola_elab.specs.Logic.{logic_value};
 ghost use Rattle.lola_app.specs.Deciding.{IsFew, IsFirstWide, IsDecidedBy};

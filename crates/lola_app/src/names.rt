@@ -1,6 +1,5 @@
 ghost use Rattle.std.specs.Prelude.{◌≡◌, ◌↔◌, map, string_bytes, IfOk, IsTrue, MatchOption};
-ghost use Rattle.lola_tree.specs.Cycle.{IsIn};
-ghost use Rattle.lola_elab.specs.Small.{AreDistinct};
+ghost use Rattle.lola_bits.specs.Lists.{IsIn, AreDistinct};
 ghost use Rattle.small_tree.specs.Table.{state_tree, set_tree, StateTree, SetTree};
 ghost use Rattle.lola_app.specs.Naming.{IsAt};
 

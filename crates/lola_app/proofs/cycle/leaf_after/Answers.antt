@@ -1,6 +1,6 @@
 use Rattle.std.proofs.Common.{◌≡◌, ◌-◌, ◌∙◌, ℕ, List, Bool, false, ◌++◌, ap, ap₂, sym, length, map, take}
 use Rattle.std.specs.Prelude.{min, slice_index_or}
-use Rattle.lola_alg.specs.Means.{number_of}
+use Rattle.lola_bits.specs.BitLists.{number_of}
 use Rattle.lola_elab.specs.declared.flat.Flat.{Flat}
 use Rattle.lola_elab.specs.Elaborated.{vector_widths, leaf_widths}
 use Rattle.lola_elab.specs.Flat.{flat_number}

@@ -1,5 +1,5 @@
 use Rattle.std.proofs.Common.{◌≡◌, ◌++◌, drop, length, map}
-use Rattle.lola_alg.specs.Means.{number_of}
+use Rattle.lola_bits.specs.BitLists.{number_of}
 use Rattle.lola_app.specs.Trial.{seen}
 use Rattle.lola_app.proofs.cycle.leaves_before.Given as goal
 

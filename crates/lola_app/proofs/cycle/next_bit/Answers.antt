@@ -1,6 +1,6 @@
 use Rattle.std.proofs.Common.{◌+◌, ◌∙◌, ap, false, length, map, drop}
 use Rattle.std.specs.Prelude.{slice_index_or}
-use Rattle.lola_alg.specs.Means.{number_of}
+use Rattle.lola_bits.specs.BitLists.{number_of}
 use Rattle.lola_elab.specs.declared.flat.Flat.{Flat}
 use Rattle.lola_elab.specs.Elaborated.{vector_widths}
 use Rattle.lola_elab.specs.Flat.{flat_width, flat_number}

@@ -1,5 +1,5 @@
 use Rattle.std.proofs.Common.{◌≡◌, ◌++◌, Some, drop, length, map}
-use Rattle.lola_alg.specs.Means.{number_of}
+use Rattle.lola_bits.specs.BitLists.{number_of}
 use Rattle.lola_elab.specs.declared.flat.Flat.{Flat}
 use Rattle.lola_elab.specs.declared.vector.Vector.{Vector}
 use Rattle.lola_elab.specs.Elaborated.{vector_widths}

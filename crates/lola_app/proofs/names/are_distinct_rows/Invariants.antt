@@ -1,6 +1,6 @@
 use Rattle.std.proofs.Common.{◌↔◌, drop}
 use Rattle.std.specs.BTreeSet.{contains_text}
-use Rattle.lola_elab.specs.Small.{AreDistinct}
+use Rattle.lola_bits.specs.Lists.{AreDistinct}
 use Rattle.lola_elab.proofs.NewNames.{AreNew}
 use Rattle.lola_app.proofs.NameRows.{names_of_rows}
 use Rattle.lola_app.proofs.names.are_distinct_rows.Given as goal

@@ -1,5 +1,5 @@
 use Rattle.std.proofs.Common.{◌∙◌, sym, string_bytes}
-use Rattle.lola_elab.proofs.Lists.{is_same_name}
+use Rattle.lola_bits.proofs.Names.{is_same_name}
 use Rattle.lola_app.proofs.Places.{at_place, differs, not_here}
 use Rattle.lola_app.proofs.names.place_of.Goals as goal
 

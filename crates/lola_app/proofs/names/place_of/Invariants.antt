@@ -1,5 +1,5 @@
 use Rattle.std.proofs.Common.{drop, map, string_bytes}
-use Rattle.lola_tree.specs.Cycle.{IsIn}
+use Rattle.lola_bits.specs.Lists.{IsIn}
 use Rattle.lola_app.proofs.names.place_of.Given as goal
 
 -- the name is behind, if it is there
