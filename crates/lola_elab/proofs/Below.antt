@@ -1,11 +1,11 @@
 -- Values are below 2 to their widths.
-use Rattle.std.proofs.Common.{◌≡◌, ℕ, zero, suc, ◌+◌, ◌-◌, ◌*◌, ◌/◌, ◌%◌, ◌^◌, ◌<◌, ◌≤◌, Bool, true, false, cond, not, Option, Some, None, sym, ◌∙◌, ap, ap₂, subst, arith, inl, inr}
+use Rattle.std.proofs.Common.{◌≡◌, ℕ, zero, suc, ◌+◌, ◌-◌, ◌*◌, ◌/◌, ◌%◌, ◌^◌, ◌<◌, ◌≤◌, Bool, true, false, cond, not, Option, Some, None, sym, ◌∙◌, ap, ap₂, subst, arith}
 use Rattle.std.specs.Prelude.{nat_eq, nat_lt, bit_and}
 use Rattle.std.proofs.lemmas.Nat.{and_le_l, pow_pos}
-use Rattle.std.proofs.Math.Nat.{div-le_self, add_comm}
+use Rattle.std.proofs.Math.Nat.{div-le_self}
 use Rattle.lola_bits.specs.declared.op.Op.{Op}
 use Rattle.lola_bits.specs.declared.op.Op.TheVariants as op
-use Rattle.lola_bits.specs.Number.{bit_at, slice_of, joined, inverted, operate, moved_filled}
+use Rattle.lola_bits.specs.Number.{bit_at, slice_of, joined, inverted, operate}
 use Rattle.lola_bits.specs.Number as bits
 use Rattle.lola_bits.specs.Vector.{FitsWidth}
 use Rattle.lola_bits.proofs.Numbers.{or_fits, xor_fits, filled_fits, joined_below}

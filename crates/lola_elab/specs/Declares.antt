@@ -1,13 +1,12 @@
 -- What a module declares, without its statements.
-use Rattle.std.specs.Prelude.{◌≡◌, ℕ, ◌+◌, ◌≤◌, Bool, true, false, not, ◌&&◌, List, [], ◌∷◌, ◌++◌, length, map, filter, Option, Some, None, string_bytes}
+use Rattle.std.specs.Prelude.{◌≡◌, ℕ, ◌+◌, ◌≤◌, not, ◌&&◌, List, [], ◌∷◌, ◌++◌, length, map, filter, Option, Some, None, string_bytes}
 use Rattle.std.specs.Borrow.{Bor}
 use Rattle.std.specs.List.{AllByRecursion}
 use Rattle.lola_bits.specs.Lists.{IsIn, AreDistinct}
 use Rattle.lola_bits.specs.Names.{is_among}
 use Rattle.lola_tree.specs.declared.named.Shape.{Shape}
 use Rattle.lola_tree.specs.declared.named.Shape.TheVariants as shape
-use Rattle.lola_tree.specs.declared.module.Way.{Way}
-use Rattle.lola_tree.specs.declared.module.Way.TheVariants.{Inward, Outward, Both}
+use Rattle.lola_tree.specs.declared.module.Way.TheVariants.{Inward}
 use Rattle.lola_tree.specs.declared.module.Port.{Port}
 use Rattle.lola_tree.specs.declared.module.Const.{Const}
 use Rattle.lola_tree.specs.declared.module.Local.{Local}

@@ -1,5 +1,4 @@
 pub mod Begun
-pub mod Designs
 pub mod Endings
 pub mod Expressions
 pub mod Follow

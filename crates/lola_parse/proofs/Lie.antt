@@ -1,5 +1,6 @@
 -- The tokens that a text spells lie within it and are spelled in ASCII.
-use Rattle.std.proofs.Common.{◌≡◌, ℕ, ◌+◌, ◌-◌, ◌<◌, Bool, true, false, ◌&&◌, ◌||◌, ◌⊎◌, inl, inr, nat_lt, List, [], ◌∷◌, ◌++◌, length, take, drop, Option, Some, None, refl, sym, ap, subst, ◌∙◌, arith, length-append, append_assoc}
+use Rattle.std.proofs.Common.{◌≡◌, ℕ, ◌+◌, ◌-◌, ◌<◌, Bool, true, false, ◌||◌, inl, inr, nat_lt, List, [], ◌∷◌, ◌++◌, length, take, drop, Option, Some, None, refl, sym, ap, subst, ◌∙◌, arith, length-append, append_assoc}
+use Rattle.std.proofs.lemmas.Bool.{and_parts, cases_Bool}
 use Rattle.std.proofs.lemmas.Bool.Decides.{nat_tests}
 use Rattle.std.proofs.lemmas.List.{take_at, drop_at}
 use Rattle.std.proofs.lemmas.Slice.Eq.{bytes_eq-Decides}
@@ -14,21 +15,9 @@ use Rattle.lola_scan.specs.Piece.{Piece, Blank, Comment, Word, Number, Pattern, 
 use Rattle.lola_scan.specs.Tokens.{Spells, no_piece, one_piece}
 use Rattle.lola_parse.specs.Symbols.{IsIn, AreIn}
 
-and_left : (a b : Bool) → (a && b) ≡ true → a ≡ true
-and_left true b h = refl
-and_left false b h = h
-
-and_right : (a b : Bool) → (a && b) ≡ true → b ≡ true
-and_right true b h = h
-and_right false b h = absurd (let p : false ≡ true = h in cc)
-
 or_right : (a b : Bool) → a ≡ false → (a || b) ≡ true → b ≡ true
 or_right true b e h = absurd (let p : true ≡ false = e in cc)
 or_right false b e h = h
-
-either : (v : Bool) → (v ≡ true) ⊎ (v ≡ false)
-either true = inl refl
-either false = inr refl
 
 abbrev Ascii : List ℕ → Type 0
 Ascii [] = Unit {0}
@@ -44,7 +33,7 @@ ascii_append (x ∷ xs) ys h k = (h.0, ascii_append xs ys h.1 k)
 
 ascii_all : (p : ℕ → Bool) → ((b : ℕ) → p b ≡ true → b < 128) → (bs : List ℕ) → list_all p bs ≡ true → Ascii bs
 ascii_all p below [] h = tt
-ascii_all p below (b ∷ bs) h = (below b (and_left (p b) (list_all p bs) h), ascii_all p below bs (and_right (p b) (list_all p bs) h))
+ascii_all p below (b ∷ bs) h = (below b (and_parts (p b) (list_all p bs) h).0, ascii_all p below bs (and_parts (p b) (list_all p bs) h).1)
 
 letter : (b : ℕ) → is_letter b ≡ true → b < 128
 letter b h = grind (arith, nat_tests)
@@ -70,10 +59,10 @@ low b h = grind (arith, nat_tests)
 one_of : (ms : List (List ℕ)) → list_all (list_all below_128) ms ≡ true → (bytes : List ℕ) → list_any (λ m. bytes_eq m bytes) ms ≡ true → Ascii bytes
 one_of [] all bytes h = absurd (let p : false ≡ true = h in cc)
 one_of (m ∷ ms) all bytes h =
-    elim (either (bytes_eq m bytes)) [
-      | inl e ↦ subst Ascii ((bytes_eq-Decides m bytes).0 e) (ascii_all below_128 low m (and_left (list_all below_128 m) (list_all (list_all below_128) ms) all))
+    elim (cases_Bool (bytes_eq m bytes)) [
+      | inl e ↦ subst Ascii ((bytes_eq-Decides m bytes).0 e) (ascii_all below_128 low m (and_parts (list_all below_128 m) (list_all (list_all below_128) ms) all).0)
       | inr e ↦
-          one_of ms (and_right (list_all below_128 m) (list_all (list_all below_128) ms) all) bytes
+          one_of ms (and_parts (list_all below_128 m) (list_all (list_all below_128) ms) all).1 bytes
           (or_right (bytes_eq m bytes) (list_any (λ m. bytes_eq m bytes) ms) e h)
     ]
 

@@ -1,3 +1,19 @@
+//! Expressions, read by recursive descent: a function for each level of the grammar calls that of the
+//! next tighter level and goes on while an operator of its own follows.
+//!
+//! Descent was taken because each function then is one rule of the grammar. Its contract speaks of that
+//! rule alone, both ways: what is read obeys it, and where something obeys it, it is read. A reader
+//! finds the rule by its name. Climbing by precedence does all levels in one loop over a table, in fewer
+//! lines, but the one contract of that loop has to speak of every level at once. A generated table of
+//! states needs no stack of calls, but its states are no rules of the grammar, so neither its faults nor
+//! its proof could be told in the grammar's words.
+//!
+//! It costs one pass with a token of look-ahead; two more behind a `[`, since `a[x : 0]` is a slice and
+//! `a[x]` an element. The token behind a factor is looked at once by each level that may end there, some
+//! half a dozen times. Each node is allocated once and moved up. Calls nest as deep as an expression has
+//! tokens, brackets and chains of operators alike, which is why one has at most 512 of them. The price
+//! is in the proof: these functions call one another, so they are proved as one cycle, the dearest single
+//! part of the gate.
 ghost use Rattle.std.specs.Prelude.{ℕ, List, ◌<◌, ◌≤◌, length, IfOk, IfErr, ◌≡◌};
 ghost use Rattle.lola_tree.specs.Tree.{tree, parts_tree};
 ghost use Rattle.lola_parse.specs.declared.symbol.Language.{Language as TheLanguage};

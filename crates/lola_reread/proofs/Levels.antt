@@ -4,6 +4,7 @@ use Rattle.std.proofs.lemmas.Bool.{cases_lt, cases_Bool}
 use Rattle.std.proofs.lemmas.Bool.Decides.{nat_tests}
 use Rattle.lola_bits.specs.declared.op.Op.{Op}
 use Rattle.lola_bits.specs.declared.op.Op.TheVariants as op
+use Rattle.lola_bits.proofs.Options.{some_same}
 use Rattle.lola_tree.specs.Tree.{Tree, binary}
 use Rattle.lola_tree.specs.Places.{placeless}
 use Rattle.lola_tree.specs.Print.{expr_text, closed, tightness, op_tightness, is_shift, left_needs, right_needs, sign_text}
@@ -153,32 +154,29 @@ pub record IsInfix (o : Op) (k l r : ℕ) (symbol : Symbol) : Type 0 where
   pub right : right_needs o ≡ r
   pub sign : Prints (sign_text o) 1 (Passes symbol)
 
-some_is : {X : Type 0} {x y : X} → Some x ≡ Some y → x ≡ y
-some_is e = cc
-
 pub relation_is : (symbol : Symbol) (o : Op) → relation_of symbol ≡ Some o → IsInfix o 1 2 2 symbol
-relation_is s.Equal o e = subst (λ p. IsInfix p 1 2 2 s.Equal) (some_is e)
+relation_is s.Equal o e = subst (λ p. IsInfix p 1 2 2 s.Equal) (some_same _ _ e)
     (record { shift = refl; tight = refl; left = refl; right = refl; sign = mark (codes "=") 32 s.Equal refl refl refl })
-relation_is s.Unequal o e = subst (λ p. IsInfix p 1 2 2 s.Unequal) (some_is e)
+relation_is s.Unequal o e = subst (λ p. IsInfix p 1 2 2 s.Unequal) (some_same _ _ e)
     (record { shift = refl; tight = refl; left = refl; right = refl; sign = mark (codes "#") 32 s.Unequal refl refl refl })
-relation_is s.Less o e = subst (λ p. IsInfix p 1 2 2 s.Less) (some_is e)
+relation_is s.Less o e = subst (λ p. IsInfix p 1 2 2 s.Less) (some_same _ _ e)
     (record { shift = refl; tight = refl; left = refl; right = refl; sign = mark (codes "<") 32 s.Less refl refl refl })
-relation_is s.AtMost o e = subst (λ p. IsInfix p 1 2 2 s.AtMost) (some_is e)
+relation_is s.AtMost o e = subst (λ p. IsInfix p 1 2 2 s.AtMost) (some_same _ _ e)
     (record { shift = refl; tight = refl; left = refl; right = refl; sign = mark (codes "<=") 32 s.AtMost refl refl refl })
-relation_is s.Greater o e = subst (λ p. IsInfix p 1 2 2 s.Greater) (some_is e)
+relation_is s.Greater o e = subst (λ p. IsInfix p 1 2 2 s.Greater) (some_same _ _ e)
     (record { shift = refl; tight = refl; left = refl; right = refl; sign = mark (codes ">") 32 s.Greater refl refl refl })
-relation_is s.AtLeast o e = subst (λ p. IsInfix p 1 2 2 s.AtLeast) (some_is e)
+relation_is s.AtLeast o e = subst (λ p. IsInfix p 1 2 2 s.AtLeast) (some_same _ _ e)
     (record { shift = refl; tight = refl; left = refl; right = refl; sign = mark (codes ">=") 32 s.AtLeast refl refl refl })
 relation_is other o e = cc
 
 pub adding_is : (symbol : Symbol) (o : Op) → adding_of symbol ≡ Some o → IsInfix o 2 2 3 symbol
-adding_is s.Plus o e = subst (λ p. IsInfix p 2 2 3 s.Plus) (some_is e)
+adding_is s.Plus o e = subst (λ p. IsInfix p 2 2 3 s.Plus) (some_same _ _ e)
     (record { shift = refl; tight = refl; left = refl; right = refl; sign = mark (codes "+") 32 s.Plus refl refl refl })
-adding_is s.Minus o e = subst (λ p. IsInfix p 2 2 3 s.Minus) (some_is e)
+adding_is s.Minus o e = subst (λ p. IsInfix p 2 2 3 s.Minus) (some_same _ _ e)
     (record { shift = refl; tight = refl; left = refl; right = refl; sign = mark (codes "-") 32 s.Minus refl refl refl })
-adding_is s.Or o e = subst (λ p. IsInfix p 2 2 3 s.Or) (some_is e)
+adding_is s.Or o e = subst (λ p. IsInfix p 2 2 3 s.Or) (some_same _ _ e)
     (record { shift = refl; tight = refl; left = refl; right = refl; sign = mark (codes "|") 32 s.Or refl refl refl })
-adding_is s.Xor o e = subst (λ p. IsInfix p 2 2 3 s.Xor) (some_is e)
+adding_is s.Xor o e = subst (λ p. IsInfix p 2 2 3 s.Xor) (some_same _ _ e)
     (record { shift = refl; tight = refl; left = refl; right = refl; sign = mark (codes "^") 32 s.Xor refl refl refl })
 adding_is other o e = cc
 
@@ -192,10 +190,10 @@ pub record IsShift (o : Op) (symbol : Symbol) : Type 0 where
   pub sign : Prints (sign_text o) 1 (Passes symbol)
 
 pub shift_is : (symbol : Symbol) (o : Op) → shift_of symbol ≡ Some o → IsShift o symbol
-shift_is s.Shl o e = subst (λ p. IsShift p s.Shl) (some_is e) (record { shift = refl; tight = refl; sign = reserved 83 (codes "HL") 32 s.Shl refl refl refl refl })
-shift_is s.Shr o e = subst (λ p. IsShift p s.Shr) (some_is e) (record { shift = refl; tight = refl; sign = reserved 83 (codes "HR") 32 s.Shr refl refl refl refl })
-shift_is s.Asr o e = subst (λ p. IsShift p s.Asr) (some_is e) (record { shift = refl; tight = refl; sign = reserved 65 (codes "SR") 32 s.Asr refl refl refl refl })
-shift_is s.Ror o e = subst (λ p. IsShift p s.Ror) (some_is e) (record { shift = refl; tight = refl; sign = reserved 82 (codes "OR") 32 s.Ror refl refl refl refl })
+shift_is s.Shl o e = subst (λ p. IsShift p s.Shl) (some_same _ _ e) (record { shift = refl; tight = refl; sign = reserved 83 (codes "HL") 32 s.Shl refl refl refl refl })
+shift_is s.Shr o e = subst (λ p. IsShift p s.Shr) (some_same _ _ e) (record { shift = refl; tight = refl; sign = reserved 83 (codes "HR") 32 s.Shr refl refl refl refl })
+shift_is s.Asr o e = subst (λ p. IsShift p s.Asr) (some_same _ _ e) (record { shift = refl; tight = refl; sign = reserved 65 (codes "SR") 32 s.Asr refl refl refl refl })
+shift_is s.Ror o e = subst (λ p. IsShift p s.Ror) (some_same _ _ e) (record { shift = refl; tight = refl; sign = reserved 82 (codes "OR") 32 s.Ror refl refl refl refl })
 shift_is other o e = cc
 
 -- two sides with an operator between them, where the grammar joins what it reads

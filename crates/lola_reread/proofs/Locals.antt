@@ -3,6 +3,7 @@ use Rattle.std.proofs.Common.{◌≡◌, ℕ, true, List, [], ◌∷◌, ◌++�
 use Rattle.std.proofs.lemmas.Bool.{cases_Bool}
 use Rattle.std.proofs.lemmas.Slice.Eq.{bytes_eq-Decides}
 use Rattle.std.specs.List.{AllByRecursion}
+use Rattle.lola_bits.proofs.All.{all_append, all_map}
 use Rattle.lola_tree.specs.declared.named.Named.{Named}
 use Rattle.lola_tree.specs.declared.named.Shape.{Shape}
 use Rattle.lola_tree.specs.declared.module.Const.{Const}
@@ -19,7 +20,7 @@ use Rattle.lola_reread.proofs.GoodItems.{AllGood}
 use Rattle.lola_reread.proofs.Prints.{Prints, Then, ◌and◌, read_as, retext, nothing, reserved, named, IsName}
 use Rattle.lola_reread.proofs.Levels.{colon, open_paren, close_paren, past_good}
 use Rattle.lola_reread.proofs.Expressions.{past_name}
-use Rattle.lola_reread.proofs.Lists.{all_append, all_map, grown, grown_none}
+use Rattle.lola_reread.proofs.Lists.{grown, grown_none}
 use Rattle.lola_reread.proofs.Shapes.{ShapeAgain, ShapePrinted, shape_done}
 use Rattle.lola_reread.proofs.Statements.{NameAgain, semicolon}
 use Rattle.lola_reread.proofs.Ports.{HasName, names_done, one_listed, ConstGood, more_consts_done}

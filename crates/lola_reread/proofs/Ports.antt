@@ -1,6 +1,7 @@
 -- Ports and constants are printed so that they are read again.
 use Rattle.std.proofs.Common.{◌≡◌, ℕ, ◌<◌, ◌^◌, List, [], ◌∷◌, ◌++◌, map, codes, Some, refl, sym, ap, subst, ◌∙◌}
 use Rattle.std.specs.List.{AllByRecursion}
+use Rattle.lola_bits.proofs.All.{all_append, all_map}
 use Rattle.lola_tree.specs.declared.named.Named.{Named}
 use Rattle.lola_tree.specs.declared.named.Shape.{Shape}
 use Rattle.lola_tree.specs.declared.module.Way.{Way}
@@ -18,7 +19,7 @@ use Rattle.lola_reread.proofs.GoodItems.{AllGood}
 use Rattle.lola_reread.proofs.Prints.{Prints, Then, ◌and◌, read_as, nothing, reserved, named, numbered as number_printed, IsName, IsWidth}
 use Rattle.lola_reread.proofs.Levels.{colon, assign, past_good}
 use Rattle.lola_reread.proofs.Expressions.{past_name, past_number}
-use Rattle.lola_reread.proofs.Lists.{all_append, all_map, grown, grown_none}
+use Rattle.lola_reread.proofs.Lists.{grown, grown_none}
 use Rattle.lola_reread.proofs.Shapes.{ShapeAgain, ShapePrinted, shape_done}
 use Rattle.lola_reread.proofs.Statements.{NameAgain, semicolon}
 

@@ -2,6 +2,7 @@
 use Rattle.std.proofs.Common.{◌≡◌, ℕ, ◌<◌, ◌^◌, true, List, ◌++◌, nat_eq, codes, Some, None, refl, sym, ap, ap₂, subst, inl, inr, arith}
 use Rattle.std.proofs.lemmas.Bool.{cases_Bool}
 use Rattle.std.proofs.lemmas.Bool.Decides.{nat_tests}
+use Rattle.lola_bits.proofs.Options.{some_same}
 use Rattle.lola_tree.specs.declared.named.Count.{Count}
 use Rattle.lola_tree.specs.declared.named.Count.TheVariants as count
 use Rattle.lola_tree.specs.declared.named.Shape.{Shape}
@@ -105,13 +106,10 @@ array_printed n (count.Fixed value at) p q = elim (cases_Bool (nat_eq value 8)) 
   ]
 ]
 
-some_is : {x y : ℕ} → Some x ≡ Some y → x ≡ y
-some_is e = cc
-
 width_bound : (symbol : Symbol) (width : ℕ) → width_of symbol ≡ Some width → width < 2 ^ 128
-width_bound s.Bit width e = subst (λ n. n < 2 ^ 128) (some_is e) (omega arith)
-width_bound s.Byte width e = subst (λ n. n < 2 ^ 128) (some_is e) (omega arith)
-width_bound s.Word width e = subst (λ n. n < 2 ^ 128) (some_is e) (omega arith)
+width_bound s.Bit width e = subst (λ n. n < 2 ^ 128) (some_same _ _ e) (omega arith)
+width_bound s.Byte width e = subst (λ n. n < 2 ^ 128) (some_same _ _ e) (omega arith)
+width_bound s.Word width e = subst (λ n. n < 2 ^ 128) (some_same _ _ e) (omega arith)
 width_bound other width e = cc
 
 -- a type that is read is printed so

@@ -1,6 +1,7 @@
 -- Statements are printed so that they are read again.
 use Rattle.std.proofs.Common.{◌≡◌, ℕ, List, [], ◌∷◌, ◌++◌, map, codes, Some, None, refl, sym, ap, ap₂, subst, ◌∙◌, arith, append-nil, append_assoc}
 use Rattle.std.specs.List.{AllByRecursion}
+use Rattle.lola_bits.proofs.All.{all_append}
 use Rattle.lola_tree.specs.declared.named.Named.{Named}
 use Rattle.lola_tree.specs.Tree.{Tree, ActualTree, StmtTree, assignment, call, pad}
 use Rattle.lola_tree.specs.Places.{placeless, placeless_name, placeless_actual, placeless_stmt}
@@ -16,7 +17,7 @@ use Rattle.lola_reread.proofs.Prints.{Prints, Then, ◌and◌, read_as, retext, 
 use Rattle.lola_reread.proofs.Levels.{lower_again, open_paren, close_paren, open_bracket, close_bracket, comma, assign, Done, past_good}
 use Rattle.lola_reread.proofs.Expressions.{past_name, few_zero}
 use Rattle.lola_reread.proofs.ReadExpressions.{expression_done}
-use Rattle.lola_reread.proofs.Lists.{all_append, grown, grown_none}
+use Rattle.lola_reread.proofs.Lists.{grown, grown_none}
 
 -- an outermost expression
 abbrev OutAgain : Tree → List Item → List Item → Type 0

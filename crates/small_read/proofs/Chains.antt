@@ -1,7 +1,6 @@
 -- Lemmas on chains: where what begins an item of a chain is at the front, the chain goes on with an
 -- item, and else it ends there.
-use Rattle.std.proofs.Common.{◌≡◌, Bool, false, List, [], ◌∷◌, ◌++◌, None, map, refl, sym, ap, subst, ◌∙◌}
-use Rattle.std.proofs.lemmas.List.{map-append}
+use Rattle.std.proofs.Common.{◌≡◌, Bool, false, List, [], ◌∷◌, ◌++◌, None, refl, sym, subst}
 use Rattle.std.specs.Prelude.{codes}
 use Rattle.lola_parse.specs.declared.symbol.Symbol.TheVariants as symbol
 use Rattle.lola_parse.specs.Symbols.{Item}
@@ -25,9 +24,6 @@ pub next_on : {T : Type 0} {Item_is : T → List Item → Type 0} {More : List T
 next_on {More = More} {before = before} {behind = behind} n one e =
     subst (λ xs. More xs behind) (sym e)
     (subst (λ x. More (before ++ x ∷ []) behind) (sym one.0) (subst (More (before ++ n.item ∷ [])) (sym one.1) n.more))
-
-pub map_more : {A B : Type 0} (f : A → B) (xs ys : List A) (x : A) → ys ≡ xs ++ x ∷ [] → map f ys ≡ map f xs ++ f x ∷ []
-map_more f xs ys x e = ap (map f) e ∙ map-append f xs (x ∷ [])
 
 -- {state}
 pub states_next : {before rows : List StateTree} {all rest : List Item} → MoreStates before all rows rest → LacksName rest → (LacksName all → ⊥) →

@@ -1,6 +1,7 @@
 -- Tokens spell at most one table, where they spell at most one expression and one type.
 use Rattle.std.proofs.Common.{◌≡◌, ℕ, Bool, List, Some, inl, inr, sym, ap, subst, ◌∙◌}
 use Rattle.std.specs.Prelude.{codes}
+use Rattle.lola_bits.proofs.Options.{some_same}
 use Rattle.lola_tree.specs.declared.named.Shape.{Shape}
 use Rattle.lola_tree.specs.Tree.{Tree}
 use Rattle.lola_parse.specs.declared.symbol.Language.TheVariants.{Table}
@@ -176,9 +177,6 @@ classes_one ended {others = others} {more = more} (one_class behind read rest) k
     let one = class_one ended read n.item_read (classes_no_row rest first) (classes_no_row n.more second) in
     classes_one ended {others = others} {more = more} rest (rw (one.0, one.1) n.more) first second
 
-some_is : {A : Type 0} {x y : A} → Some x ≡ Some y → x ≡ y
-some_is e = cc
-
 headed_one : {heading other : Heading} {all rest more : List Item} → Headed all heading rest → Headed all other more → LacksRole rest → LacksRole more →
     (heading ≡ other) × (rest ≡ more)
 headed_one {other = other} {more = more} h k first second =
@@ -189,7 +187,7 @@ headed_one {other = other} {more = more} h k first second =
     let semicolon = passes_one {more = k.word_roles} h.semicolon_passed (rw root.1 k.semicolon_passed) in
     let word_roles = keyword_one {more = k.roles} h.roles_passed (rw semicolon k.roles_passed) in
     let roles = roles_one {other = record { reset = Some other.reset; loaded = other.loaded }} {more = more} h.roles_read (rw word_roles k.roles_read) first second in
-    let reset = some_is (ap (λ (r : Roles). r.reset) roles.0) in
+    let reset = some_same _ _ (ap (λ (r : Roles). r.reset) roles.0) in
     let loaded = ap (λ (r : Roles). r.loaded) roles.0 in
     ((λ i. record { name = name.0 i; root = root.0 i; reset = reset i; loaded = loaded i }), roles.1)
 

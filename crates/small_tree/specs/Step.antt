@@ -1,6 +1,6 @@
 -- What a table says of a word: its class, the states after an instruction, and an execution from
 -- answer to answer. So far the word is 0 of width 1, and an instruction makes no access.
-use Rattle.std.specs.Prelude.{◌≡◌, ℕ, zero, suc, ◌+◌, ◌-◌, ◌/◌, ◌%◌, ◌^◌, ◌≤◌, Bool, true, false, if◌then◌else◌, nat_eq, List, [], ◌∷◌, length, drop, bytes_eq, codes, ◌&&◌, Some, None}
+use Rattle.std.specs.Prelude.{◌≡◌, ℕ, zero, suc, ◌+◌, ◌-◌, ◌≤◌, Bool, true, false, if◌then◌else◌, nat_eq, List, [], ◌∷◌, length, drop, bytes_eq, codes, ◌&&◌, Some, None}
 use Rattle.lola_bits.specs.Number.{bit_at}
 use Rattle.lola_bits.specs.Lists.{IsIn}
 use Rattle.lola_tree.specs.declared.named.Ref.{Ref}

@@ -1,8 +1,7 @@
 use Rattle.std.proofs.Common.{◌≤◌, length, List, [], ◌∷◌, ◌++◌, map, sym, ap, subst, ◌∙◌, arith}
-use Rattle.lola_parse.proofs.Designs.{map_more}
+use Rattle.lola_bits.proofs.Places.{map_more, no_items}
 use Rattle.lola_tree.specs.Tree.{ModuleTree, module_tree, source_tree}
 use Rattle.lola_parse.specs.Design.{MoreModules, no_module, next_module, spells}
-use Rattle.lola_parse.proofs.Designs.{no_items}
 use Rattle.lola_parse.proofs.Whole.{made_on}
 use Rattle.lola_parse.proofs.Steps.{was_read, by_read}
 use Rattle.lola_parse.proofs.Modules.{source_step, more_modules_step, more_modules_over}
@@ -23,7 +22,7 @@ modules-init c =
 
 pub modules-preserved : goal.modules-preserved
 modules-preserved c =
-    let items = ap (map module_tree) c.in_ok-push-2.ensures.items ∙ map_more module_tree c.modules.modules.items c.in_ok-next.next in
+    let items = map_more module_tree c.modules.modules.items _ c.in_ok-next.next c.in_ok-push-2.ensures.items in
     let left = c.left.ensures in
     record {
       whole = λ t read.

@@ -1,7 +1,7 @@
 use Rattle.std.proofs.Common.{[], ◌∷◌, ◌++◌, map, refl, sym, ap, subst, ◌∙◌, arith}
 use Rattle.lola_parse.specs.declared.symbol.Symbol.TheVariants as s
 use Rattle.lola_parse.proofs.Fronts.{stands, Stands-shorter}
-use Rattle.lola_parse.proofs.Designs.{map_more}
+use Rattle.lola_bits.proofs.Places.{map_more}
 use Rattle.lola_tree.specs.Tree.{actual_tree}
 use Rattle.lola_parse.specs.Design.{MoreArguments, no_argument, one_argument}
 use Rattle.lola_parse.proofs.Whole.{handed_on, not_front}
@@ -38,14 +38,14 @@ more-preserved c =
       shorter = omega arith;
       whole = λ args rest read ends.
           subst (λ xs. MoreArguments xs c.in_ok-arg-in-Comma.rest args rest)
-          (sym (ap (map actual_tree) c.in_ok-push-in-Comma.ensures.items ∙ map_more actual_tree c.more.args.items c.in_ok-arg-in-Comma.arg))
+          (sym (map_more actual_tree c.more.args.items _ c.in_ok-arg-in-Comma.arg c.in_ok-push-in-Comma.ensures.items))
           (was_read (λ a mid. MoreArguments (map actual_tree c.more.args.items ++ a ∷ []) mid args rest)
           (more_arguments_step (c.more.invariant.whole args rest read ends) ends comma) c.in_ok-arg-in-Comma.ensures.whole);
       reads = λ args rest more.
           c.more.invariant.reads args rest
           (one_argument _ _ comma c.in_ok-arg-in-Comma.ensures.ok
           (subst (λ xs. MoreArguments xs c.in_ok-arg-in-Comma.rest args rest)
-          (ap (map actual_tree) c.in_ok-push-in-Comma.ensures.items ∙ map_more actual_tree c.more.args.items c.in_ok-arg-in-Comma.arg) more));
+          (map_more actual_tree c.more.args.items _ c.in_ok-arg-in-Comma.arg c.in_ok-push-in-Comma.ensures.items) more));
     }
 
 pub returns-in_default-clause-shorter : goal.returns-in_default-clause-shorter

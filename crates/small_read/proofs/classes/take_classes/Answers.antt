@@ -1,7 +1,8 @@
 use Rattle.std.proofs.Common.{refl, subst, arith}
+use Rattle.lola_bits.proofs.Places.{map_more}
 use Rattle.small_tree.specs.Table.{class_tree}
 use Rattle.small_read.specs.Grammar.{MoreClasses, no_class, one_class}
-use Rattle.small_read.proofs.Chains.{classes_next, classes_end, next_on, map_more, classes_no_row}
+use Rattle.small_read.proofs.Chains.{classes_next, classes_end, next_on, classes_no_row}
 use Rattle.small_read.proofs.Exits.{want}
 use Rattle.small_read.proofs.classes.take_classes.Goals as goal
 

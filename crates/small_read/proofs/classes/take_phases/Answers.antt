@@ -1,7 +1,8 @@
 use Rattle.std.proofs.Common.{[], ◌∷◌, ◌++◌, map, refl, ap, subst, ◌∙◌, arith}
+use Rattle.lola_bits.proofs.Places.{map_more}
 use Rattle.small_tree.specs.Table.{phase_tree}
 use Rattle.small_read.specs.Grammar.{MorePhases, no_phase, next_phase}
-use Rattle.small_read.proofs.Chains.{phases_next, phases_end, phases_on, next_on, map_more}
+use Rattle.small_read.proofs.Chains.{phases_next, phases_end, phases_on, next_on}
 use Rattle.small_read.proofs.Exits.{want}
 use Rattle.small_read.proofs.classes.take_phases.Goals as goal
 

@@ -1,7 +1,8 @@
 use Rattle.std.proofs.Common.{refl, subst, arith}
+use Rattle.lola_bits.proofs.Places.{map_more}
 use Rattle.small_tree.specs.Table.{set_tree}
 use Rattle.small_read.specs.Grammar.{MoreSets, no_set, one_set}
-use Rattle.small_read.proofs.Chains.{sets_next, sets_end, next_on, map_more}
+use Rattle.small_read.proofs.Chains.{sets_next, sets_end, next_on}
 use Rattle.small_read.proofs.Exits.{want}
 use Rattle.small_read.proofs.classes.take_sets.Goals as goal
 

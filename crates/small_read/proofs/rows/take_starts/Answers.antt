@@ -1,7 +1,8 @@
 use Rattle.std.proofs.Common.{refl, subst, arith}
+use Rattle.lola_bits.proofs.Places.{map_more}
 use Rattle.small_tree.specs.Table.{set_tree}
 use Rattle.small_read.specs.Grammar.{MoreStarts, no_start, one_start}
-use Rattle.small_read.proofs.Chains.{starts_next, starts_end, next_on, map_more}
+use Rattle.small_read.proofs.Chains.{starts_next, starts_end, next_on}
 use Rattle.small_read.proofs.Exits.{want}
 use Rattle.small_read.proofs.rows.take_starts.Goals as goal
 

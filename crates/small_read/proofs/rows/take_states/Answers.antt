@@ -1,7 +1,8 @@
 use Rattle.std.proofs.Common.{refl, subst, arith}
+use Rattle.lola_bits.proofs.Places.{map_more}
 use Rattle.small_tree.specs.Table.{state_tree}
 use Rattle.small_read.specs.Grammar.{MoreStates, no_state, one_state}
-use Rattle.small_read.proofs.Chains.{states_next, states_end, next_on, map_more}
+use Rattle.small_read.proofs.Chains.{states_next, states_end, next_on}
 use Rattle.small_read.proofs.Exits.{want}
 use Rattle.small_read.proofs.rows.take_states.Goals as goal
 
