@@ -1,6 +1,7 @@
 -- What two texts lead to, from what trying the claim that was made of them came to.
 use Rattle.std.proofs.Common.{◌≡◌, ℕ, ◌+◌, ◌<◌, ◌≤◌, List, [], ◌∷◌, length, map, Some, refl, sym, ap, ap₂, ◌∙◌, subst, arith, inl, inr}
-use Rattle.std.specs.Prelude.{filter, nat_eq, slice_get, string_bytes}
+use Rattle.std.specs.Prelude.{filter, nat_eq, slice_get, string_bytes, Result, Ok, Err, IfOk}
+use Rattle.lola_bits.specs.declared.memory.Memory.{Memory}
 use Rattle.lola_tree.specs.Tree.{ModuleTree, SourceTree}
 use Rattle.lola_tree.specs.Value.{Values}
 use Rattle.lola_tree.specs.Cycle.{IsState, IsGiven, Cycle, Next}
@@ -11,20 +12,22 @@ use Rattle.lola_elab.specs.Elaborated.{vector_names, vector_widths, leaf_widths,
 use Rattle.lola_elab.proofs.Roots.{root_is}
 use Rattle.small_tree.specs.Table.{TableTree}
 use Rattle.lola_app.specs.declared.claim.Claim.{Claim}
+use Rattle.lola_app.specs.declared.decide_reply.DecideReply.{DecideReply}
 use Rattle.lola_app.specs.declared.face.Face.{Face}
 use Rattle.lola_app.specs.declared.subject.Subject.{Subject}
 use Rattle.lola_app.specs.Accepts.{Fits, AcceptsTable}
 use Rattle.lola_app.specs.Claiming.{IsClaimOf}
+use Rattle.lola_app.specs.Decided.{IsYes, IsNo, IsLimited, IsDecided}
+use Rattle.lola_app.specs.DecideReply.{DecideOutcome, refused, table_not_built, too_many_bits, accepted, failed, decide_outcome}
 use Rattle.lola_app.specs.Headline.{Resets, Commutes}
 use Rattle.lola_app.specs.Listing.{named_of}
 use Rattle.lola_app.specs.Made.{IsDesignOf, IsTableOf}
 use Rattle.lola_app.specs.Naming.{IsAt}
 use Rattle.lola_app.specs.Obligations.{obligations, AllHold, free_names, free_widths}
-use Rattle.lola_app.specs.Reply.{Line, lines_of, Outcome, accepted, failed, too_many_bits, wrong_words, source_refused, long_expression, table_not_built, unread, too_long, no_memory}
-use Rattle.lola_app.specs.Serve.{IsYes, IsNo, IsLimited, IsDecided}
 use Rattle.lola_app.specs.Small.{Interface, width_in, bits_among, interface_of, IsSmallTable}
 use Rattle.lola_app.specs.Trial.{IsTriable}
 use Rattle.lola_app.specs.Tried.{AllPass, OneFails, OneIsWide, IsTried}
+use Rattle.lola_app.specs.Values.{Line, lines_of}
 use Rattle.lola_app.specs.Vectors.{bit_names, face_of, interface_in}
 use Rattle.lola_app.proofs.Behaves.{Behaves, behaves, few_filter, input_widths_are, register_widths_are}
 use Rattle.lola_app.proofs.Bridge.{Fitting}
@@ -190,14 +193,13 @@ module _ (source table : List ℕ) (design : Design) (face : Face) (claim : Clai
           count_is = wide.count_is ∙ first.counted;
         }
 
-    pub decided : (outcome : Outcome) → IsTried subject outcome → IsDecided source table outcome
+    decided : (outcome : DecideOutcome) → IsTried subject outcome → IsDecided source table outcome
+    decided (refused refusal) tried = absurd tried
+    decided table_not_built tried = absurd tried
+    decided (too_many_bits name count) tried = limited name count tried
     decided (accepted obliged inside) tried = yes obliged inside tried
     decided (failed name lines) tried = no name lines tried
-    decided (too_many_bits name count) tried = limited name count tried
-    decided no_memory tried = tt
-    decided wrong_words tried = absurd tried
-    decided (source_refused fault) tried = absurd tried
-    decided (long_expression at) tried = absurd tried
-    decided table_not_built tried = absurd tried
-    decided (unread word) tried = absurd tried
-    decided (too_long word) tried = absurd tried
+
+    pub decided_of : (r : Result DecideReply Memory) → IfOk r (λ reply. IsTried subject (decide_outcome reply)) → IfOk r (λ reply. IsDecided source table (decide_outcome reply))
+    decided_of (Ok reply) tried = decided (decide_outcome reply) tried
+    decided_of (Err memory) tried = tt

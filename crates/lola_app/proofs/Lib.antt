@@ -1,7 +1,11 @@
 pub mod Appends
 pub mod Lists
 pub mod OneAnswer
+pub mod OneOutcome
+pub mod OneRefusal
+pub mod Stages
 mod Orders
+pub mod Statuses
 pub mod ThreeItems
 mod ByRow
 mod Printed
@@ -15,7 +19,6 @@ mod Theorem
 mod Behaves
 mod ClassNames
 mod Decided
-mod Due
 mod Fits
 mod Leaves
 mod NameRows

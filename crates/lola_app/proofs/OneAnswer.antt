@@ -1,53 +1,33 @@
--- Two texts lead to one answer.
-use Rattle.std.proofs.Common.{◌≡◌, ◌≢◌, ℕ, ◌+◌, ◌<◌, ◌≤◌, List, [], ◌∷◌, ◌++◌, length, refl, sym, ap, ap₂, ◌∙◌, subst, arith, inl, inr, ◌⊎◌, length-append, Some, None}
+-- Two texts lead to one answer of `decide`.
+use Rattle.std.proofs.Common.{◌≡◌, ℕ, ◌+◌, ◌<◌, ◌≤◌, List, [], ◌∷◌, ◌++◌, length, refl, sym, ap, ap₂, ◌∙◌, subst, arith, inl, inr, ◌⊎◌, length-append}
 use Rattle.std.specs.List.{AllByRecursion}
 use Rattle.std.proofs.lemmas.Bool.{cases_lt}
 use Rattle.lola_tree.specs.Tree.{SourceTree}
 use Rattle.lola_tree.specs.Signals.{values_of, root_registers}
-use Rattle.lola_scan.specs.declared.token.Token.{Token}
-use Rattle.lola_scan.specs.declared.token.ScanError.{ScanError}
-use Rattle.lola_scan.specs.declared.token.ScanError.TheVariants as scan
-use Rattle.lola_scan.specs.Tokens.{Spells, Fails, HasOneReading}
-use Rattle.lola_parse.specs.declared.symbol.Language.TheVariants.{Design, Table}
+use Rattle.lola_parse.specs.declared.symbol.Language.TheVariants.{Table}
 use Rattle.lola_parse.specs.Symbols.{Item, items_of}
-use Rattle.lola_parse.specs.Design.{SpellsSource}
 use Rattle.small_tree.specs.Table.{TableTree}
 use Rattle.small_tree.specs.Step.{inside_classes}
 use Rattle.small_read.specs.Grammar.{SpellsTable}
-use Rattle.lola_elab.specs.Built.{IsBuiltSource}
-use Rattle.lola_elab.specs.Small.{IsSmallSource}
+use Rattle.lola_app.specs.declared.fault.SourceRefusal.{SourceRefusal}
 use Rattle.lola_app.specs.Accepts.{Accepts, IsSpelled, AcceptsTable}
+use Rattle.lola_app.specs.Decided.{IsYes, IsNo, IsLimited, IsTableRefused, IsDecided, IsUnsettled, Passes, decide_stage}
+use Rattle.lola_app.specs.DecideReply.{DecideOutcome, refused, table_not_built, too_many_bits, accepted, failed}
 use Rattle.lola_app.specs.Obligations.{Obligation, cover, reset, ends, obligations, obligation_name, Valuation, HoldsAt, IsViolatedAt, HoldsAlways, free_inputs, free_names, free_values, free_widths, free_bits, IsNarrow, ComesBefore, IsLeastViolation}
-use Rattle.lola_width.specs.declared.fault.SourceFault.{SourceFault as SizeFault}
-use Rattle.lola_width.specs.Order.{first_after}
-use Rattle.lola_width.specs.Sized.{IsWellSized, first_fault}
-use Rattle.lola_app.specs.declared.fault.SourceFault.{SourceFault}
-use Rattle.lola_app.specs.declared.fault.SourceFault.TheVariants.{BadByte, NumberTooLarge, OpenComment, Syntax, IllSized, NotBuilt}
-use Rattle.lola_app.specs.Refused.{HasNoTree, HasLongExpression, HasSizeFault, IsOutside, IsRefused}
-use Rattle.lola_app.specs.Reply.{Line, lines_of, Outcome, accepted, failed, too_many_bits, wrong_words, source_refused, long_expression, table_not_built, unread, too_long, no_memory}
-use Rattle.lola_app.specs.Serve.{IsYes, IsNo, IsLimited, IsTableRefused, IsDecided, IsUngrammatical}
+use Rattle.lola_app.specs.Refused.{IsUngrammatical, refusal_stage}
+use Rattle.lola_app.specs.Stages.{Stage, words, reading, scanning, grammar, sizes, forms, table, limits, verdict, IsReached}
+use Rattle.lola_app.specs.Values.{Line, lines_of}
 use Rattle.lola_app.proofs.Leaves.{length_map}
-use Rattle.lola_app.proofs.Readings.{source_of, small_of, table_of}
+use Rattle.lola_app.proofs.OneRefusal.{OneReadingLaw, OneTreeLaw, BuiltLaw, one_source, RefusedAt, refused_at, no_tokens, no_source, no_sizes, no_form, one_refusal}
+use Rattle.lola_app.proofs.Readings.{table_of}
+use Rattle.lola_app.proofs.Stages.{reached_first, reached_next, one_of_all}
 
--- the laws that one answer stands on
-abbrev pub OneReadingLaw : Type 0
-OneReadingLaw = (text : List ℕ) → HasOneReading text
-
-abbrev pub OneTreeLaw : Type 0
-OneTreeLaw = (all : List Item) (t u : SourceTree) → SpellsSource all t → SpellsSource all u → t ≡ u
-
+-- the law that one table stands on
 abbrev pub OneTableLaw : Type 0
 OneTableLaw = (all : List Item) (T U : TableTree) → SpellsTable all T → SpellsTable all U → T ≡ U
 
--- a design in the small form is of the forms that are built
-abbrev pub BuiltLaw : Type 0
-BuiltLaw = (S : SourceTree) → IsSmallSource S → IsBuiltSource S
-
-pub one_source : OneReadingLaw → OneTreeLaw → (bytes : List ℕ) (S R : SourceTree) → Accepts bytes S → Accepts bytes R → S ≡ R
-one_source reading tree bytes S R s r = tree (items_of Design bytes r.tokens) S R (source_of bytes r.tokens S (reading bytes) r.spells s) r.source
-
 pub one_table : OneReadingLaw → OneTableLaw → (bytes : List ℕ) (T U : TableTree) → IsSpelled bytes T → IsSpelled bytes U → T ≡ U
-one_table reading table bytes T U t u = table (items_of Table bytes u.tokens) T U (table_of bytes u.tokens T (reading bytes) u.spells t) u.table
+one_table reads tables bytes T U t u = tables (items_of Table bytes u.tokens) T U (table_of bytes u.tokens T (reads bytes) u.spells t) u.table
 
 -- an obligation isn't both kept and violated
 pub not_both : (S : SourceTree) (T : TableTree) (o : Obligation) (w : Valuation) → HoldsAt S T o w → IsViolatedAt S T o w → ⊥
@@ -132,16 +112,84 @@ least_is_one S T o w u least least' = elim (compared (free_values S T o w) (free
   | inr (inr behind) ↦ absurd (not_both S T o u (least.least u least'.suits behind) least'.violated)
 ]
 
--- a fault of a text, as it is told
-abbrev named_as : ScanError → SourceFault
-named_as (scan.BadByte at) = BadByte at
-named_as (scan.NumberTooLarge at) = NumberTooLarge at
-named_as (scan.OpenComment at) = OpenComment at
-named_as scan.Memory = NotBuilt
+-- what comes at each stage, and why
+abbrev pub ComesAt : List ℕ → List ℕ → Stage → DecideOutcome → Type 0
+ComesAt s t words a = ⊥
+ComesAt s t reading a = ⊥
+ComesAt s t scanning a = (r : SourceRefusal) × (RefusedAt s scanning r × (a ≡ refused r))
+ComesAt s t grammar a = (r : SourceRefusal) × (RefusedAt s grammar r × (a ≡ refused r))
+ComesAt s t sizes a = (r : SourceRefusal) × (RefusedAt s sizes r × (a ≡ refused r))
+ComesAt s t forms a = (r : SourceRefusal) × (RefusedAt s forms r × (a ≡ refused r))
+ComesAt s t table a = IsTableRefused s t × (a ≡ table_not_built)
+ComesAt s t limits a = (name : List ℕ) × ((count : ℕ) × (IsLimited s t name count × (a ≡ too_many_bits name count)))
+ComesAt s t verdict a = ((m : ℕ) × ((k : ℕ) × (IsYes s t m k × (a ≡ accepted m k)))) ⊎ ((name : List ℕ) × ((lines : List Line) × (IsNo s t name lines × (a ≡ failed name lines))))
 
-module _ (reading : OneReadingLaw) (tree : OneTreeLaw) (table : OneTableLaw) (built : BuiltLaw) (s t : List ℕ) where
+-- a refusal of the design's text, as an outcome
+of_refusal : (s t : List ℕ) (k : Stage) (r : SourceRefusal) → RefusedAt s k r → ComesAt s t k (refused r)
+of_refusal s t words r is = absurd is
+of_refusal s t reading r is = absurd is
+of_refusal s t scanning r is = (r, (is, refl))
+of_refusal s t grammar r is = (r, (is, refl))
+of_refusal s t sizes r is = (r, (is, refl))
+of_refusal s t forms r is = (r, (is, refl))
+of_refusal s t table r is = absurd is
+of_refusal s t limits r is = absurd is
+of_refusal s t verdict r is = absurd is
+
+-- each outcome comes at its stage
+pub comes_at : (s t : List ℕ) (a : DecideOutcome) → IsDecided s t a → ComesAt s t (decide_stage a) a
+comes_at s t (refused r) is = of_refusal s t (refusal_stage r) r (refused_at s r is)
+comes_at s t table_not_built is = (is, refl)
+comes_at s t (too_many_bits name count) is = (name, (count, (is, refl)))
+comes_at s t (accepted m k) is = inl (m, (k, (is, refl)))
+comes_at s t (failed name lines) is = inr (name, (lines, (is, refl)))
+
+-- two refusals as outcomes
+same_refusal : (a b : DecideOutcome) (r q : SourceRefusal) → a ≡ refused r → b ≡ refused q → (r ≡ q) ⊎ (IsUngrammatical r × IsUngrammatical q) → (a ≡ b) ⊎ (IsUnsettled a × IsUnsettled b)
+same_refusal a b r q is is' (inl same) = inl (is ∙ ap refused same ∙ sym is')
+same_refusal a b r q is is' (inr both) = inr (subst IsUnsettled (sym is) both.0, subst IsUnsettled (sym is') both.1)
+
+-- which stages are reached
+module _ (s t : List ℕ) where
+  at_scanning : IsReached (Passes s t) scanning
+  at_scanning = reached_next (Passes s t) reading scanning refl (reached_next (Passes s t) words reading refl (reached_first (Passes s t)) tt) tt
+
+  at_grammar : Passes s t scanning → IsReached (Passes s t) grammar
+  at_grammar passes = reached_next (Passes s t) scanning grammar refl at_scanning passes
+
+  at_sizes : Passes s t grammar → IsReached (Passes s t) sizes
+  at_sizes (S, made) = reached_next (Passes s t) grammar sizes refl (at_grammar (made.tokens, made.spells)) (S, made)
+
+  at_forms : Passes s t sizes → IsReached (Passes s t) forms
+  at_forms (S, (made, sized)) = reached_next (Passes s t) sizes forms refl (at_sizes (S, made)) (S, (made, sized))
+
+  at_table : Passes s t forms → IsReached (Passes s t) table
+  at_table (S, accepts) =
+      reached_next (Passes s t) forms table refl (at_forms (S, (record { tokens = accepts.tokens; spells = accepts.spells; spelled = accepts.source }, accepts.sized))) (S, accepts)
+
+  at_limits : Passes s t table → IsReached (Passes s t) limits
+  at_limits (S, (T, both)) = reached_next (Passes s t) table limits refl (at_table (S, both.0)) (S, (T, both))
+
+  at_verdict : Passes s t limits → IsReached (Passes s t) verdict
+  at_verdict (S, (T, all)) = reached_next (Passes s t) limits verdict refl (at_limits (S, (T, (all.0, all.1)))) (S, (T, all))
+
+  pub is_reached : (k : Stage) (a : DecideOutcome) → ComesAt s t k a → IsReached (Passes s t) k
+  is_reached words a comes = absurd comes
+  is_reached reading a comes = absurd comes
+  is_reached scanning a comes = at_scanning
+  is_reached grammar a (r, (none, is)) = at_grammar (none.0.tokens, none.0.spells)
+  is_reached sizes a (r, ((error, (has, why)), is)) = at_sizes (has.S, record { tokens = has.tokens; spells = has.spells; spelled = has.spelled })
+  is_reached forms a (r, ((outside, why), is)) =
+      at_forms (outside.S, (record { tokens = outside.tokens; spells = outside.spells; spelled = outside.spelled }, outside.sized))
+  is_reached table a (none, is) = at_table (none.S, none.design)
+  is_reached limits a (name, (count, (limited, is))) = at_limits (limited.S, (limited.T, (limited.design, limited.fitting)))
+  is_reached verdict a (inl (m, (k, (holds, is)))) =
+      at_verdict (holds.headline.S, (holds.headline.T, (holds.headline.design, holds.headline.fitting, holds.narrow)))
+  is_reached verdict a (inr (name, (lines, (fails, is)))) = at_verdict (fails.S, (fails.T, (fails.design, fails.fitting, fails.narrow)))
+
+module _ (reads : OneReadingLaw) (tree : OneTreeLaw) (tables : OneTableLaw) (built : BuiltLaw) (s t : List ℕ) where
   same_pair : (S R : SourceTree) (T U : TableTree) → Accepts s S → Accepts s R → AcceptsTable S t T → AcceptsTable R t U → (S ≡ R) × (T ≡ U)
-  same_pair S R T U one two three four = (one_source reading tree s S R one two, one_table reading table t T U three.spelled four.spelled)
+  same_pair S R T U one two three four = (one_source reads tree s S R one two, one_table reads tables t T U three.spelled four.spelled)
 
   two_yes : (m n k l : ℕ) → IsYes s t m k → IsYes s t n l → accepted m k ≡ accepted n l
   two_yes m n k l one two =
@@ -197,142 +245,36 @@ module _ (reading : OneReadingLaw) (tree : OneTreeLaw) (table : OneTableLaw) (bu
       ap₂ too_many_bits (one.name_is ∙ ap obligation_name first ∙ sym two.name_is) (one.count_is ∙ ap (free_bits one.S one.T) first ∙ sym bits ∙ sym two.count_is)
 
   refused_none : {S : SourceTree} {T : TableTree} → IsTableRefused s t → Accepts s S → AcceptsTable S t T → ⊥
-  refused_none {S = S} {T = T} refused design fitting =
-      refused.none T (subst (λ (R : SourceTree). AcceptsTable R t T) (one_source reading tree s S refused.S design refused.design) fitting)
+  refused_none {S = S} {T = T} none design fitting =
+      none.none T (subst (λ (R : SourceTree). AcceptsTable R t T) (one_source reads tree s S none.S design none.design) fitting)
 
-  -- why the text of the design gives none, and what is said of it: its first fault, by name; no tree of its
-  -- tokens, by one of the two outcomes that say so; the first fault of their tree; or a tree outside the
-  -- forms that are built
-  data SourceCause (a : Outcome) : Type 0 where
-    by_fault : (error : ScanError) → Fails 0 s error → a ≡ source_refused (named_as error) → SourceCause a
-    by_grammar : HasNoTree s → IsUngrammatical a → SourceCause a
-    by_size : (error : SizeFault) → HasSizeFault s error → a ≡ source_refused (IllSized error) → SourceCause a
-    by_form : IsOutside s → a ≡ source_refused NotBuilt → SourceCause a
+  -- what comes at a stage comes only where that isn't passed
+  pub stops : (k : Stage) (a : DecideOutcome) → ComesAt s t k a → Passes s t k → ⊥
+  stops words a comes passes = comes
+  stops reading a comes passes = comes
+  stops scanning a (r, (why, is)) (tokens, spells) = no_tokens reads tree built s r why tokens spells
+  stops grammar a (r, (why, is)) (S, made) = no_source reads tree built s r why S made
+  stops sizes a (r, (why, is)) (S, (made, sized)) = no_sizes reads tree built s r why S made sized
+  stops forms a (r, (why, is)) (S, accepts) = no_form reads tree built s r why S accepts
+  stops table a (none, is) (S, (T, both)) = refused_none none both.0 both.1
+  stops limits a (name, (count, (limited, is))) (S, (T, all)) = never_wide S T name count all.0 all.1 all.2 limited
+  stops verdict a comes passes = passes
 
-  cause_of : (fault : SourceFault) → IsRefused s fault → SourceCause (source_refused fault)
-  cause_of (BadByte at) is = by_fault (scan.BadByte at) is refl
-  cause_of (NumberTooLarge at) is = by_fault (scan.NumberTooLarge at) is refl
-  cause_of (OpenComment at) is = by_fault (scan.OpenComment at) is refl
-  cause_of (Syntax at) is = by_grammar is tt
-  cause_of (IllSized error) is = by_size error is refl
-  cause_of NotBuilt is = by_form is refl
+  -- what comes at one stage is one
+  one_at : (k : Stage) (a b : DecideOutcome) → ComesAt s t k a → ComesAt s t k b → (a ≡ b) ⊎ (IsUnsettled a × IsUnsettled b)
+  one_at words a b p q = absurd p
+  one_at reading a b p q = absurd p
+  one_at scanning a b (r, (why, is)) (q, (why', is')) = same_refusal a b r q is is' (one_refusal reads tree built s scanning r q why why')
+  one_at grammar a b (r, (why, is)) (q, (why', is')) = same_refusal a b r q is is' (one_refusal reads tree built s grammar r q why why')
+  one_at sizes a b (r, (why, is)) (q, (why', is')) = same_refusal a b r q is is' (one_refusal reads tree built s sizes r q why why')
+  one_at forms a b (r, (why, is)) (q, (why', is')) = same_refusal a b r q is is' (one_refusal reads tree built s forms r q why why')
+  one_at table a b (none, is) (other, is') = inl (is ∙ sym is')
+  one_at limits a b (m, (k, (limited, is))) (n, (l, (other, is'))) = inl (is ∙ two_limited m n k l limited other ∙ sym is')
+  one_at verdict a b (inl (m, (k, (holds, is)))) (inl (n, (l, (other, is')))) = inl (is ∙ two_yes m n k l holds other ∙ sym is')
+  one_at verdict a b (inl (m, (k, (holds, is)))) (inr (n, (l, (fails, is')))) = absurd (yes_and_no m k n l holds fails)
+  one_at verdict a b (inr (m, (k, (fails, is)))) (inl (n, (l, (holds, is')))) = absurd (yes_and_no n l m k holds fails)
+  one_at verdict a b (inr (m, (k, (fails, is)))) (inr (n, (l, (other, is')))) = inl (is ∙ two_no m n k l fails other ∙ sym is')
 
-  cause_of_long : (at : ℕ) → HasLongExpression s at → SourceCause (long_expression at)
-  cause_of_long at is = by_grammar is.no_tree tt
-
-  -- the trees that a text spells are one, and tokens that spell a tree don't spell none
-  same_tree : (S R : SourceTree) (ts us : List Token) → Spells 0 s ts → SpellsSource (items_of Design s ts) S → Spells 0 s us → SpellsSource (items_of Design s us) R → S ≡ R
-  same_tree S R ts us spells spelled spells' spelled' =
-      tree (items_of Design s ts) S R spelled
-      (subst (λ (vs : List Token). SpellsSource (items_of Design s vs) R) (HasOneReading.one_list (reading s) us ts spells' spells) spelled')
-
-  spells_one : (S : SourceTree) (ts : List Token) → HasNoTree s → Spells 0 s ts → SpellsSource (items_of Design s ts) S → ⊥
-  spells_one S ts none spells spelled =
-      none.none S (subst (λ (vs : List Token). SpellsSource (items_of Design s vs) S) (HasOneReading.one_list (reading s) ts none.tokens spells none.spells) spelled)
-
-  -- a tree with a fault isn't well sized
-  never_sized : (S R : SourceTree) (error : SizeFault) → S ≡ R → first_fault S ≡ Some error → IsWellSized R → ⊥
-  never_sized S R error same first sized =
-      let none : first_fault S ≡ None = ap first_fault same ∙ ap (first_after None) sized.none in
-      cc
-
-  -- a text with such a cause isn't accepted
-  not_accepted : {a : Outcome} {S : SourceTree} → SourceCause a → Accepts s S → ⊥
-  not_accepted {S = S} (by_fault error fails is) accepts = HasOneReading.never_both (reading s) accepts.tokens error accepts.spells fails
-  not_accepted {S = S} (by_grammar none is) accepts = none.none S (source_of s none.tokens S (reading s) none.spells accepts)
-  not_accepted {S = S} (by_size error has is) accepts =
-      never_sized has.S S error (same_tree has.S S has.tokens accepts.tokens has.spells has.spelled accepts.spells accepts.source) has.first accepts.sized
-  not_accepted {S = S} (by_form outside is) accepts =
-      outside.large (built outside.S (small_of s outside.tokens S outside.S (reading s) tree outside.spells outside.spelled accepts))
-
-  -- so two causes are one, but for the two outcomes of grammar
-  one_cause : (a b : Outcome) → SourceCause a → SourceCause b → (a ≡ b) ⊎ (IsUngrammatical a × IsUngrammatical b)
-  one_cause a b (by_fault error fails is) (by_fault other fails' is') =
-      inl (is ∙ ap (λ (e : ScanError). source_refused (named_as e)) (HasOneReading.one_fault (reading s) error other fails fails') ∙ sym is')
-  one_cause a b (by_fault error fails is) (by_grammar none is') = absurd (HasOneReading.never_both (reading s) none.tokens error none.spells fails)
-  one_cause a b (by_fault error fails is) (by_size other has is') = absurd (HasOneReading.never_both (reading s) has.tokens error has.spells fails)
-  one_cause a b (by_fault error fails is) (by_form outside is') = absurd (HasOneReading.never_both (reading s) outside.tokens error outside.spells fails)
-  one_cause a b (by_grammar none is) (by_fault error fails is') = absurd (HasOneReading.never_both (reading s) none.tokens error none.spells fails)
-  one_cause a b (by_grammar none is) (by_grammar other is') = inr (is, is')
-  one_cause a b (by_grammar none is) (by_size error has is') = absurd (spells_one has.S has.tokens none has.spells has.spelled)
-  one_cause a b (by_grammar none is) (by_form outside is') = absurd (spells_one outside.S outside.tokens none outside.spells outside.spelled)
-  one_cause a b (by_size error has is) (by_fault other fails is') = absurd (HasOneReading.never_both (reading s) has.tokens other has.spells fails)
-  one_cause a b (by_size error has is) (by_grammar none is') = absurd (spells_one has.S has.tokens none has.spells has.spelled)
-  one_cause a b (by_size error has is) (by_size other has' is') =
-      let same = same_tree has.S has'.S has.tokens has'.tokens has.spells has.spelled has'.spells has'.spelled in
-      let one : Some error ≡ Some other = sym has.first ∙ ap first_fault same ∙ has'.first in
-      let errors : error ≡ other = cc in
-      inl (is ∙ ap (λ (e : SizeFault). source_refused (IllSized e)) errors ∙ sym is')
-  one_cause a b (by_size error has is) (by_form outside is') =
-      absurd (never_sized has.S outside.S error (same_tree has.S outside.S has.tokens outside.tokens has.spells has.spelled outside.spells outside.spelled) has.first outside.sized)
-  one_cause a b (by_form outside is) (by_fault error fails is') = absurd (HasOneReading.never_both (reading s) outside.tokens error outside.spells fails)
-  one_cause a b (by_form outside is) (by_grammar none is') = absurd (spells_one outside.S outside.tokens none outside.spells outside.spelled)
-  one_cause a b (by_form outside is) (by_size error has is') =
-      absurd (never_sized has.S outside.S error (same_tree has.S outside.S has.tokens outside.tokens has.spells has.spelled outside.spells outside.spelled) has.first outside.sized)
-  one_cause a b (by_form outside is) (by_form other is') = inl (is ∙ sym is')
-
-  pub one_answer_is : (a b : Outcome) → IsDecided s t a → IsDecided s t b → a ≢ no_memory → b ≢ no_memory → (a ≡ b) ⊎ (IsUngrammatical a × IsUngrammatical b)
-  one_answer_is (accepted m k) (accepted n l) one two p q = inl (two_yes m n k l one two)
-  one_answer_is (accepted m k) (failed n l) one two p q = absurd (yes_and_no m k n l one two)
-  one_answer_is (accepted m k) (too_many_bits n l) one two p q = absurd (never_wide one.headline.S one.headline.T n l one.headline.design one.headline.fitting one.narrow two)
-  one_answer_is (accepted m k) (source_refused other) one two p q = absurd (not_accepted (cause_of other two) one.headline.design)
-  one_answer_is (accepted m k) (long_expression place) one two p q = absurd (not_accepted (cause_of_long place two) one.headline.design)
-  one_answer_is (accepted m k) table_not_built one two p q = absurd (refused_none two one.headline.design one.headline.fitting)
-  one_answer_is (accepted m k) wrong_words one two p q = absurd two
-  one_answer_is (accepted m k) (unread word) one two p q = absurd two
-  one_answer_is (accepted m k) (too_long word) one two p q = absurd two
-  one_answer_is (failed m k) (accepted n l) one two p q = absurd (yes_and_no n l m k two one)
-  one_answer_is (failed m k) (failed n l) one two p q = inl (two_no m n k l one two)
-  one_answer_is (failed m k) (too_many_bits n l) one two p q = absurd (never_wide one.S one.T n l one.design one.fitting one.narrow two)
-  one_answer_is (failed m k) (source_refused other) one two p q = absurd (not_accepted (cause_of other two) one.design)
-  one_answer_is (failed m k) (long_expression place) one two p q = absurd (not_accepted (cause_of_long place two) one.design)
-  one_answer_is (failed m k) table_not_built one two p q = absurd (refused_none two one.design one.fitting)
-  one_answer_is (failed m k) wrong_words one two p q = absurd two
-  one_answer_is (failed m k) (unread word) one two p q = absurd two
-  one_answer_is (failed m k) (too_long word) one two p q = absurd two
-  one_answer_is (too_many_bits m k) (accepted n l) one two p q = absurd (never_wide two.headline.S two.headline.T m k two.headline.design two.headline.fitting two.narrow one)
-  one_answer_is (too_many_bits m k) (failed n l) one two p q = absurd (never_wide two.S two.T m k two.design two.fitting two.narrow one)
-  one_answer_is (too_many_bits m k) (too_many_bits n l) one two p q = inl (two_limited m n k l one two)
-  one_answer_is (too_many_bits m k) (source_refused other) one two p q = absurd (not_accepted (cause_of other two) one.design)
-  one_answer_is (too_many_bits m k) (long_expression place) one two p q = absurd (not_accepted (cause_of_long place two) one.design)
-  one_answer_is (too_many_bits m k) table_not_built one two p q = absurd (refused_none two one.design one.fitting)
-  one_answer_is (too_many_bits m k) wrong_words one two p q = absurd two
-  one_answer_is (too_many_bits m k) (unread word) one two p q = absurd two
-  one_answer_is (too_many_bits m k) (too_long word) one two p q = absurd two
-  one_answer_is (source_refused fault) (accepted n l) one two p q = absurd (not_accepted (cause_of fault one) two.headline.design)
-  one_answer_is (source_refused fault) (failed n l) one two p q = absurd (not_accepted (cause_of fault one) two.design)
-  one_answer_is (source_refused fault) (too_many_bits n l) one two p q = absurd (not_accepted (cause_of fault one) two.design)
-  one_answer_is (source_refused fault) (source_refused other) one two p q = one_cause _ _ (cause_of fault one) (cause_of other two)
-  one_answer_is (source_refused fault) (long_expression place) one two p q = one_cause _ _ (cause_of fault one) (cause_of_long place two)
-  one_answer_is (source_refused fault) table_not_built one two p q = absurd (not_accepted (cause_of fault one) two.design)
-  one_answer_is (source_refused fault) wrong_words one two p q = absurd two
-  one_answer_is (source_refused fault) (unread word) one two p q = absurd two
-  one_answer_is (source_refused fault) (too_long word) one two p q = absurd two
-  one_answer_is (long_expression at) (accepted n l) one two p q = absurd (not_accepted (cause_of_long at one) two.headline.design)
-  one_answer_is (long_expression at) (failed n l) one two p q = absurd (not_accepted (cause_of_long at one) two.design)
-  one_answer_is (long_expression at) (too_many_bits n l) one two p q = absurd (not_accepted (cause_of_long at one) two.design)
-  one_answer_is (long_expression at) (source_refused other) one two p q = one_cause _ _ (cause_of_long at one) (cause_of other two)
-  one_answer_is (long_expression at) (long_expression place) one two p q = one_cause _ _ (cause_of_long at one) (cause_of_long place two)
-  one_answer_is (long_expression at) table_not_built one two p q = absurd (not_accepted (cause_of_long at one) two.design)
-  one_answer_is (long_expression at) wrong_words one two p q = absurd two
-  one_answer_is (long_expression at) (unread word) one two p q = absurd two
-  one_answer_is (long_expression at) (too_long word) one two p q = absurd two
-  one_answer_is table_not_built (accepted n l) one two p q = absurd (refused_none one two.headline.design two.headline.fitting)
-  one_answer_is table_not_built (failed n l) one two p q = absurd (refused_none one two.design two.fitting)
-  one_answer_is table_not_built (too_many_bits n l) one two p q = absurd (refused_none one two.design two.fitting)
-  one_answer_is table_not_built (source_refused other) one two p q = absurd (not_accepted (cause_of other two) one.design)
-  one_answer_is table_not_built (long_expression place) one two p q = absurd (not_accepted (cause_of_long place two) one.design)
-  one_answer_is table_not_built table_not_built one two p q = inl refl
-  one_answer_is table_not_built wrong_words one two p q = absurd two
-  one_answer_is table_not_built (unread word) one two p q = absurd two
-  one_answer_is table_not_built (too_long word) one two p q = absurd two
-  one_answer_is no_memory b one two p q = absurd (p refl)
-  one_answer_is wrong_words b one two p q = absurd one
-  one_answer_is (unread word) b one two p q = absurd one
-  one_answer_is (too_long word) b one two p q = absurd one
-  one_answer_is (accepted m k) no_memory one two p q = absurd (q refl)
-  one_answer_is (failed m k) no_memory one two p q = absurd (q refl)
-  one_answer_is (too_many_bits m k) no_memory one two p q = absurd (q refl)
-  one_answer_is (source_refused fault) no_memory one two p q = absurd (q refl)
-  one_answer_is (long_expression at) no_memory one two p q = absurd (q refl)
-  one_answer_is table_not_built no_memory one two p q = absurd (q refl)
+  pub one_answer_is : (a b : DecideOutcome) → IsDecided s t a → IsDecided s t b → (a ≡ b) ⊎ (IsUnsettled a × IsUnsettled b)
+  one_answer_is a b p q =
+      one_of_all (Passes s t) (ComesAt s t) (λ (a b : DecideOutcome). (a ≡ b) ⊎ (IsUnsettled a × IsUnsettled b)) (is_reached s t) stops one_at (decide_stage a) (decide_stage b) a b (comes_at s t a p) (comes_at s t b q)

@@ -14,7 +14,7 @@ use Rattle.lola_width.specs.declared.fault.SourceFault.{SourceFault as SizeFault
 use Rattle.lola_width.specs.declared.fault.SourceFault.TheVariants as size
 use Rattle.lola_elab.specs.declared.fault.ElabError.{ElabError}
 use Rattle.lola_elab.specs.declared.fault.ElabError.TheVariants as elab
-use Rattle.lola_app.specs.Refused.{HasNoTree, HasSizeFault, IsOutside, HasRefusal, HasLong, scan_refusal, parse_refusal, size_refusal, elab_refusal}
+use Rattle.lola_app.specs.Refused.{HasNoTree, HasSizeFault, IsOutside, HasRefusal, scan_refusal, parse_refusal, size_refusal, elab_refusal}
 
 -- a fault of the scanner is the text's first
 pub scan_refused : {V : Type 0} (text : List ℕ) (items : V → List Token) (error : ScanError) → Scanned {V = V} text items (Err error) → HasRefusal text (scan_refusal error)
@@ -23,24 +23,12 @@ scan_refused text items (scan.NumberTooLarge at) is = is
 scan_refused text items (scan.OpenComment at) is = is
 scan_refused text items scan.Memory is = tt
 
--- and it is no expression that is too long
-pub scan_long : (text : List ℕ) (error : ScanError) → HasLong text (scan_refusal error)
-scan_long text (scan.BadByte at) = tt
-scan_long text (scan.NumberTooLarge at) = tt
-scan_long text (scan.OpenComment at) = tt
-scan_long text scan.Memory = tt
-
--- the parser's errors but want of memory come where the tokens spell no design
-pub parse_refused : (text : List ℕ) (error : ParseError) → (error ≢ parse.Memory → HasNoTree text) → HasRefusal text (parse_refusal error)
-parse_refused text (parse.Syntax at) none = none (λ e. cc)
-parse_refused text (parse.Long at) none = tt
-parse_refused text parse.Memory none = tt
-
-pub parse_long : (text : List ℕ) (error : ParseError) (no_tree : error ≢ parse.Memory → HasNoTree text) →
-    ((other : error ≢ parse.Memory) → LongSays (IsTooLong Design (items_of Design text (no_tree other).tokens)) error) → HasLong text (parse_refusal error)
-parse_long text (parse.Syntax at) no_tree long = tt
-parse_long text (parse.Long at) no_tree long = record { no_tree = no_tree (λ e. cc); long = long (λ e. cc) }
-parse_long text parse.Memory no_tree long = tt
+-- the parser's errors but want of memory come where the tokens spell no design, and Long also says where
+pub parse_refused : (text : List ℕ) (error : ParseError) (no_tree : error ≢ parse.Memory → HasNoTree text) →
+    ((other : error ≢ parse.Memory) → LongSays (IsTooLong Design (items_of Design text (no_tree other).tokens)) error) → HasRefusal text (parse_refusal error)
+parse_refused text (parse.Syntax at) no_tree long = no_tree (λ e. cc)
+parse_refused text (parse.Long at) no_tree long = record { no_tree = no_tree (λ e. cc); long = long (λ e. cc) }
+parse_refused text parse.Memory no_tree long = tt
 
 -- the first fault of a tree that isn't well sized
 pub size_refused : (text : List ℕ) (error : SizeFault) → (error ≢ size.Memory → HasSizeFault text error) → HasRefusal text (size_refusal error)
@@ -57,15 +45,7 @@ size_refused text (size.PortCount at) has = has (λ e. cc)
 size_refused text (size.NotAssigned at name) has = has (λ e. cc)
 size_refused text (size.AssignedTwice at name) has = has (λ e. cc)
 
-pub size_long : (text : List ℕ) (error : SizeFault) → HasLong text (size_refusal error)
-size_long text size.Memory = tt
-size_long text other = tt
-
 -- a tree that gives no design is outside the forms that are built
 pub elab_refused : (text : List ℕ) (error : ElabError) → (error ≡ elab.NotBuilt → IsOutside text) → HasRefusal text (elab_refusal error)
 elab_refused text elab.NotBuilt outside = outside refl
 elab_refused text elab.Memory outside = tt
-
-pub elab_long : (text : List ℕ) (error : ElabError) → HasLong text (elab_refusal error)
-elab_long text elab.NotBuilt = tt
-elab_long text elab.Memory = tt

@@ -14,7 +14,7 @@ use Rattle.lola_app.specs.declared.obligation.Which.{Which}
 use Rattle.lola_app.specs.declared.obligation.Which.TheVariants as which
 use Rattle.lola_app.specs.declared.subject.Subject.{Subject}
 use Rattle.lola_app.specs.Obligations.{total}
-use Rattle.lola_app.specs.Reply.{hex_digit, hex_digits}
+use Rattle.lola_app.specs.Values.{hex_digit, hex_digits}
 use Rattle.lola_app.specs.Trial.{but_one, seen, tried_widths, IsTriable}
 use Rattle.lola_app.specs.Valuations.{AreWithin}
 use Rattle.lola_app.proofs.Orders.{either}

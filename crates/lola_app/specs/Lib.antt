@@ -2,6 +2,8 @@ pub mod Accepts
 pub mod Claiming
 pub mod Classes
 pub mod Cycle
+pub mod DecideReply
+pub mod Decided
 pub mod Deciding
 pub mod Fitting
 pub mod Headline
@@ -10,15 +12,18 @@ pub mod Made
 pub mod Naming
 pub mod Obligations
 pub mod Printing
+pub mod RefusalText
 pub mod Refused
 pub mod Reply
 pub mod Scoping
 pub mod Serve
 pub mod Shown
 pub mod Small
+pub mod Stages
 pub mod Starts
 pub mod Status
 pub mod Trial
 pub mod Tried
 pub mod Valuations
+pub mod Values
 pub mod Vectors

@@ -6,11 +6,12 @@ use Rattle.lola_app.specs.declared.subject.Subject.{Subject}
 use Rattle.lola_app.specs.declared.obligation.Obligation.{Obligation}
 use Rattle.lola_app.specs.declared.obligation.Which.{Which}
 use Rattle.lola_app.specs.declared.obligation.Which.TheVariants as which
+use Rattle.lola_app.specs.DecideReply.{DecideOutcome, refused, table_not_built, too_many_bits, accepted, failed}
 use Rattle.lola_app.specs.Deciding.{IsFew, IsFirstWide, PassesAlways, IsFirstFailing}
 use Rattle.lola_app.specs.Listing.{named_of, listed}
 use Rattle.lola_app.specs.Obligations.{total}
-use Rattle.lola_app.specs.Reply.{Line, lines_of, Outcome, accepted, failed, too_many_bits, wrong_words, source_refused, long_expression, table_not_built, unread, too_long, no_memory}
 use Rattle.lola_app.specs.Trial.{but_one, tried_widths}
+use Rattle.lola_app.specs.Values.{Line, lines_of}
 
 -- what a cycle leaves free: the inputs but RESET, and the registers
 abbrev pub free_leaves : Subject → List (List ℕ)
@@ -51,14 +52,10 @@ pub record OneIsWide (subject : Subject) (name : List ℕ) (count : ℕ) : Type 
   pub name_is : name ≡ string_bytes wide.obligation.name
   pub count_is : count ≡ total (tried_widths subject wide.obligation.which)
 
-abbrev pub IsTried : Subject → Outcome → Type 0
+-- what it comes to. That the texts are refused is known before
+abbrev pub IsTried : Subject → DecideOutcome → Type 0
+IsTried subject (refused refusal) = ⊥
+IsTried subject table_not_built = ⊥
+IsTried subject (too_many_bits name count) = OneIsWide subject name count
 IsTried subject (accepted obliged inside) = AllPass subject obliged inside
 IsTried subject (failed name lines) = OneFails subject name lines
-IsTried subject (too_many_bits name count) = OneIsWide subject name count
-IsTried subject no_memory = Unit {0}
-IsTried subject wrong_words = ⊥
-IsTried subject (source_refused fault) = ⊥
-IsTried subject (long_expression at) = ⊥
-IsTried subject table_not_built = ⊥
-IsTried subject (unread word) = ⊥
-IsTried subject (too_long word) = ⊥

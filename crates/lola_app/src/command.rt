@@ -23,8 +23,9 @@ const TEXT_LIMIT: u64 = 1_048_576;
 /// names, widths or assignments, or it is outside the forms that are built. TableFault: the other text
 /// spells no table in these forms that fits the design. ReadFault: a read failed. Limit: a file has more
 /// than 1,048,576 bytes, an outermost expression of the design has more than 512 tokens, or an obligation
-/// leaves more than 16 bits free. WriteFault: the sink failed. Memory: memory was wanting, and the text is
-/// its line or a front of one. The store is only read, and the seats stay.
+/// leaves more than 16 bits free. WriteFault: the sink failed, and a front of the text is printed. Memory:
+/// memory was wanting, and the text is its line or a front of one. With every other status the whole text
+/// is printed, and the sink's count of faults is as before. The store is only read, and the seats stay.
 pub fn serve<F: Store, O: Sink>(
     alloc: Global,
     words: &[String],
@@ -68,7 +69,10 @@ fn decide_files<F: Store>(alloc: Global, source: &String, table: &String, files:
         Ok(text) => text,
         Err(reply) => return reply,
     };
-    decide_texts(alloc, source_text.as_slice(), table_text.as_slice())
+    match decide_texts(alloc, source_text.as_slice(), table_text.as_slice()) {
+        Ok(reply) => Reply::OfDecide(reply),
+        Err(_) => Reply::NoMemory,
+    }
 }
 
 /// The text under a word, or the reply that says why there is none.

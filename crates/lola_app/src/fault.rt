@@ -32,15 +32,31 @@ pub enum SourceFault {
     NotBuilt,
 }
 
+/// Why the text of a design is refused, or passes a limit.
+#[derive(Debug, Drop)]
+pub enum SourceRefusal {
+    /// It has this fault.
+    Fault { fault: SourceFault },
+    /// The token at this offset in bytes is the 513th of one outermost expression.
+    Long { at: u32 },
+}
+
 /// Why the text of a design gives none.
 #[derive(Debug, Drop)]
 pub enum SourceError {
     /// The text is refused.
-    Refused { fault: SourceFault },
-    /// The token at this offset in bytes is the 513th of one outermost expression.
-    Long { at: u32 },
+    Refused { refusal: SourceRefusal },
     /// Want of memory.
     Memory,
+}
+
+/// The error of a fault.
+fn at_fault(fault: SourceFault) -> SourceError
+    ensures { result ≡ SourceError.Refused (SourceRefusal.Fault fault) }
+{
+    SourceError::Refused {
+        refusal: SourceRefusal::Fault { fault },
+    }
 }
 
 impl From<ScanError> for SourceError {
@@ -53,7 +69,7 @@ impl From<ScanError> for SourceError {
             ScanError::OpenComment { at } => SourceFault::OpenComment { at },
             ScanError::Memory => return SourceError::Memory,
         };
-        SourceError::Refused { fault }
+        at_fault(fault)
     }
 }
 
@@ -62,10 +78,10 @@ impl From<ParseError> for SourceError {
 
     fn from(error: ParseError) -> SourceError {
         match error {
-            ParseError::Syntax { at } => SourceError::Refused {
-                fault: SourceFault::Syntax { at },
+            ParseError::Syntax { at } => at_fault(SourceFault::Syntax { at }),
+            ParseError::Long { at } => SourceError::Refused {
+                refusal: SourceRefusal::Long { at },
             },
-            ParseError::Long { at } => SourceError::Long { at },
             ParseError::Memory => SourceError::Memory,
         }
     }
@@ -77,9 +93,7 @@ impl From<SizeFault> for SourceError {
     fn from(error: SizeFault) -> SourceError {
         match error {
             SizeFault::Memory => SourceError::Memory,
-            fault => SourceError::Refused {
-                fault: SourceFault::IllSized { fault },
-            },
+            fault => at_fault(SourceFault::IllSized { fault }),
         }
     }
 }
@@ -89,9 +103,7 @@ impl From<ElabError> for SourceError {
 
     fn from(error: ElabError) -> SourceError {
         match error {
-            ElabError::NotBuilt => SourceError::Refused {
-                fault: SourceFault::NotBuilt,
-            },
+            ElabError::NotBuilt => at_fault(SourceFault::NotBuilt),
             ElabError::Memory => SourceError::Memory,
         }
     }

@@ -28,14 +28,19 @@ mod subject;
 mod texts;
 mod trial;
 
-// commands
-mod command;
-mod printer;
+// what a call comes to, with its text and status: of any command, and of each
+mod decide_reply;
+mod line;
 mod refusal;
 mod reply;
 mod status;
+mod values;
+
+// commands
+mod command;
+mod printer;
 mod words;
 
 pub use command::serve;
-pub use laws::{headline, one_answer, one_spelling};
+pub use laws::{headline, one_answer, one_outcome, one_spelling};
 pub use status::{Status, status_number};

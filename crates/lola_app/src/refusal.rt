@@ -1,17 +1,47 @@
 ghost use Rattle.std.specs.Prelude.{◌≡◌, ◌++◌, OnOk, codes, decimal};
-ghost use Rattle.lola_app.specs.Reply.{fault_text, size_text, named_at};
+ghost use Rattle.lola_app.specs.RefusalText.{refusal_status, refusal_text, fault_text, size_text, named_at};
 
-use crate::fault::SourceFault;
-use itoa::Buffer;
+use crate::fault::{SourceFault, SourceRefusal};
+use crate::line::push_number;
+use crate::status::Status;
 use lola_width::SourceFault as SizeFault;
 use std::alloc::AllocError;
 
+/// The status where the text of a design is refused so.
+pub fn refusal_status(refusal: &SourceRefusal) -> Status
+    ensures { result ≡ refusal_status refusal.now }
+{
+    match refusal {
+        SourceRefusal::Fault { .. } => Status::SourceFault,
+        SourceRefusal::Long { .. } => Status::Limit,
+    }
+}
+
 /// The line of a design's text that is refused.
-pub fn push_refusal(text: &mut Vec<u8>, fault: &SourceFault) -> Result<(), AllocError>
+pub fn push_refusal(text: &mut Vec<u8>, refusal: &SourceRefusal) -> Result<(), AllocError>
+    ensures { OnOk result (text.new.items ≡ text.old.items ++ refusal_text refusal.now) }
+{
+    match refusal {
+        SourceRefusal::Fault { fault } => push_line(text, fault),
+        SourceRefusal::Long { at } => push_long(text, *at),
+    }
+}
+
+/// The line of a fault.
+fn push_line(text: &mut Vec<u8>, fault: &SourceFault) -> Result<(), AllocError>
     ensures { OnOk result (text.new.items ≡ text.old.items ++ (codes "source: " ++ (fault_text fault.now ++ codes "\n"))) }
 {
     text.extend_from_slice(b"source: ")?;
     push_fault(text, fault)?;
+    text.extend_from_slice(b"\n")?;
+    Ok(())
+}
+
+/// The line of an expression that is too long.
+fn push_long(text: &mut Vec<u8>, at: u32) -> Result<(), AllocError>
+    ensures { OnOk result (text.new.items ≡ text.old.items ++ (codes "limit: expression " ++ (decimal at ++ codes "\n"))) }
+{
+    push_number(text, b"limit: expression ", at as usize)?;
     text.extend_from_slice(b"\n")?;
     Ok(())
 }
@@ -69,15 +99,5 @@ fn push_widths(text: &mut Vec<u8>, at: u32, left: u32, right: u32) -> Result<(),
     push_number(text, b"Width ", at as usize)?;
     push_number(text, b" ", left as usize)?;
     push_number(text, b" ", right as usize)?;
-    Ok(())
-}
-
-/// A number in decimal digits behind what is said of it.
-pub fn push_number(text: &mut Vec<u8>, said: &[u8], number: usize) -> Result<(), AllocError>
-    ensures { OnOk result (text.new.items ≡ text.old.items ++ (said.now ++ decimal number)) }
-{
-    let mut buffer = Buffer::new();
-    text.extend_from_slice(said)?;
-    text.extend_from_slice(buffer.format(number).as_bytes())?;
     Ok(())
 }

@@ -4,20 +4,21 @@ ghost use Rattle.lola_parse.specs.Symbols.{AreIn};
 ghost use Rattle.lola_tree.specs.Tree.{source_tree};
 ghost use Rattle.small_tree.specs.Table.{TableTree};
 ghost use Rattle.lola_app.specs.Accepts.{IsSpelled};
+ghost use Rattle.lola_app.specs.Decided.{IsDecided, text_limit};
+ghost use Rattle.lola_app.specs.DecideReply.{decide_outcome};
 ghost use Rattle.lola_app.specs.Made.{IsSourceOf, IsDesignOf, IsTableOf};
-ghost use Rattle.lola_app.specs.Refused.{HasRefusal, HasLong};
-ghost use Rattle.lola_app.specs.Reply.{outcome_of};
-ghost use Rattle.lola_app.specs.Serve.{IsDecided, text_limit};
+ghost use Rattle.lola_app.specs.Refused.{HasRefusal};
 ghost use Rattle.lola_app.specs.Small.{IsSmallTable};
 ghost use Rattle.lola_app.specs.Vectors.{interface_in};
 
 use crate::claim::{Claim, fit};
+use crate::decide_reply::DecideReply;
 use crate::face::{Face, face_of};
 use crate::fault::{ReadError, SourceError};
 use crate::laws::headline;
-use crate::reply::Reply;
 use crate::subject::subject_of;
 use crate::trial::try_claim;
+use lola_bits::Memory;
 use lola_elab::{Design, built_is_small, next_is_a_state, one_cycle, read_design};
 use lola_parse::{parse, tokens_lie_within};
 use lola_scan::{ScanError, Token, one_reading, scan};
@@ -27,37 +28,27 @@ use small_read::{one_table, read_table};
 use std::alloc::Global;
 
 /// What `decide` comes to for the text of a design and that of a table.
-pub fn decide_texts(alloc: Global, source: &[u8], table: &[u8]) -> Reply
+pub fn decide_texts(alloc: Global, source: &[u8], table: &[u8]) -> Result<DecideReply, Memory>
     requires source { length source.now ≤ text_limit }
     requires table { length table.now ≤ text_limit }
-    ensures { IsDecided source.now table.now (outcome_of result) }
+    ensures { IfOk result (λ reply. IsDecided source.now table.now (decide_outcome reply)) }
 {
     let design = match source_design(alloc, source) {
         Ok(design) => design,
-        Err(SourceError::Refused { fault }) => return Reply::SourceRefused { fault },
-        Err(SourceError::Long { at }) => return Reply::LongExpression { at },
-        Err(SourceError::Memory) => return Reply::NoMemory,
+        Err(SourceError::Refused { refusal }) => return Ok(DecideReply::Refused { refusal }),
+        Err(SourceError::Memory) => return Err(Memory),
     };
-    let face = match face_of(alloc, &design) {
-        Ok(face) => face,
-        Err(_) => return Reply::NoMemory,
-    };
+    let face = face_of(alloc, &design)?;
     let claim = match table_claim(alloc, table, face) {
         Ok(claim) => claim,
-        Err(ReadError::NotBuilt) => return Reply::TableNotBuilt,
-        Err(ReadError::Memory) => return Reply::NoMemory,
+        Err(ReadError::NotBuilt) => return Ok(DecideReply::TableNotBuilt),
+        Err(ReadError::Memory) => return Err(Memory),
     };
-    let subject = match subject_of(alloc, design, claim) {
-        Ok(subject) => subject,
-        Err(_) => return Reply::NoMemory,
-    };
+    let subject = subject_of(alloc, design, claim)?;
     one_cycle();
     next_is_a_state();
     headline();
-    match try_claim(alloc, &subject) {
-        Ok(reply) => reply,
-        Err(_) => Reply::NoMemory,
-    }
+    try_claim(alloc, &subject)
 }
 
 /// The design that a text spells, or why it gives none: the first fault of the text comes
@@ -67,7 +58,6 @@ fn source_design(alloc: Global, text: &[u8]) -> Result<Design, SourceError>
     requires { length text.now ≤ text_limit }
     ensures ok { IfOk result (λ design. IsDesignOf text.now design) }
     ensures refused { IfErr result (λ error. HasRefusal text.now error) }
-    ensures long { IfErr result (λ error. HasLong text.now error) }
 {
     let source = match spelled_source(alloc, text) {
         Ok(source) => source,
@@ -89,7 +79,6 @@ fn spelled_source(alloc: Global, text: &[u8]) -> Result<Source, SourceError>
     requires { length text.now ≤ text_limit }
     ensures ok { IfOk result (λ source. IsSourceOf text.now (source_tree source)) }
     ensures refused { IfErr result (λ error. HasRefusal text.now error) }
-    ensures long { IfErr result (λ error. HasLong text.now error) }
 {
     let tokens = match text_tokens(alloc, text) {
         Ok(tokens) => tokens,

@@ -1,40 +1,42 @@
 ghost use Rattle.std.specs.Prelude.{◌≡◌, [], ◌∷◌, ◌++◌, map, string_bytes, codes, List, ℕ, IfOk, OnOk};
 ghost use Rattle.lola_elab.specs.Elaborated.{vector_names};
-ghost use Rattle.lola_app.specs.Reply.{outcome_of, line_of, lines_of};
+ghost use Rattle.lola_app.specs.DecideReply.{decide_outcome};
+ghost use Rattle.lola_app.specs.Values.{line_of, lines_of};
 ghost use Rattle.lola_app.specs.Deciding.{IsFirstWide, IsFirstFailing};
 ghost use Rattle.lola_app.specs.Trial.{tried_widths, IsTriable};
 ghost use Rattle.lola_app.specs.Tried.{free_leaves, printed_names, IsTried};
 
 use crate::decide::{Decided, behind_first, decide, first_wide, free_bits, free_widths};
+use crate::decide_reply::DecideReply;
 use crate::obligation::{Obligation, Which, obligations};
-use crate::reply::{NamedNumber, Reply};
 use crate::subject::Subject;
+use crate::values::NamedNumber;
 use lola_bits::Memory;
 use lola_elab::Vector;
 use std::alloc::{AllocError, Global};
 
 /// What trying all cases of a claim comes to: all its obligations hold, or the first that fails with
 /// its least valuation, or the first that leaves too many bits free.
-pub fn try_claim(alloc: Global, subject: &Subject) -> Result<Reply, Memory>
+pub fn try_claim(alloc: Global, subject: &Subject) -> Result<DecideReply, Memory>
     requires { IsTriable subject.now }
-    ensures { IfOk result (λ reply. IsTried subject.now (outcome_of reply)) }
+    ensures { IfOk result (λ reply. IsTried subject.now (decide_outcome reply)) }
 {
     let list = obligations(alloc, &subject.claim)?;
     if let Some(number) = first_wide(alloc, subject, list.as_slice())? {
         let obligation = &list[number];
-        return Ok(Reply::TooManyBits {
+        return Ok(DecideReply::TooManyBits {
             obligation: obligation.name.clone()?,
             count: free_bits(alloc, subject, obligation.which)?,
         });
     }
     match decide(alloc, subject, list.as_slice())? {
-        Decided::All => Ok(Reply::Accepted {
+        Decided::All => Ok(DecideReply::Accepted {
             obligations: list.len(),
             classes: 1,
         }),
         Decided::Fails { number, numbers } => {
             let obligation = &list[number];
-            Ok(Reply::Failed {
+            Ok(DecideReply::Failed {
                 obligation: obligation.name.clone()?,
                 numbers: named_numbers(alloc, subject, obligation.which, numbers.as_slice())?,
             })

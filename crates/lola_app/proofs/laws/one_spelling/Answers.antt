@@ -1,4 +1,5 @@
-use Rattle.lola_app.proofs.OneAnswer.{one_source, one_table}
+use Rattle.lola_app.proofs.OneAnswer.{one_table}
+use Rattle.lola_app.proofs.OneRefusal.{one_source}
 use Rattle.lola_app.proofs.laws.one_spelling.Goals as goal
 
 pub returns-clause-sources : goal.returns-clause-sources

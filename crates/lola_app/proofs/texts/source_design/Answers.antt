@@ -1,8 +1,8 @@
 use Rattle.std.proofs.Common.{sym, ap, subst}
 use Rattle.std.specs.Prelude.{Err}
 use Rattle.lola_tree.specs.Tree.{source_tree}
-use Rattle.lola_app.specs.Refused.{HasRefusal, HasLong}
-use Rattle.lola_app.proofs.Refusals.{size_refused, size_long, elab_refused, elab_long}
+use Rattle.lola_app.specs.Refused.{HasRefusal}
+use Rattle.lola_app.proofs.Refusals.{size_refused, elab_refused}
 use Rattle.lola_app.proofs.texts.source_design.Goals as goal
 
 pub returns-in-Err-sizes-clause-refused : goal.returns-in-Err-sizes-clause-refused
@@ -15,9 +15,6 @@ returns-in-Err-sizes-clause-refused c =
       first = c.in-Err-sizes.ensures.fault other;
     }))
 
-pub returns-in-Err-sizes-clause-long : goal.returns-in-Err-sizes-clause-long
-returns-in-Err-sizes-clause-long c = subst (HasLong c.args.text.now) (sym c.from.ensures) (size_long c.args.text.now c.in-Err-sizes.fault)
-
 pub returns-clause-refused : goal.returns-clause-refused
 returns-clause-refused c =
     subst (HasRefusal c.args.text.now) (sym c.from-in-Err-read_design.ensures) (elab_refused c.args.text.now c.in-Err-read_design.fault (λ e. record {
@@ -28,6 +25,3 @@ returns-clause-refused c =
       sized = c.in-Ok-sizes.ensures.ok;
       large = λ built. c.in-Err-read_design.ensures.none (ap (λ f. Err f) e) (c.built_is_small.ensures.small (source_tree c.in-Ok.source) c.in-Ok-sizes.ensures.ok built);
     }))
-
-pub returns-clause-long : goal.returns-clause-long
-returns-clause-long c = subst (HasLong c.args.text.now) (sym c.from-in-Err-read_design.ensures) (elab_long c.args.text.now c.in-Err-read_design.fault)

@@ -1,5 +1,5 @@
 use Rattle.std.proofs.Common.{◌≡◌, ◌++◌, drop, map, string_bytes}
-use Rattle.lola_app.specs.Reply.{line_of, lines_of}
+use Rattle.lola_app.specs.Values.{line_of, lines_of}
 use Rattle.lola_app.proofs.trial.together.Given as goal
 
 -- the lines so far, and those behind

@@ -4,7 +4,7 @@ use Rattle.std.proofs.lemmas.Option.{get_or_from_slice_get, slice_get_within}
 use Rattle.lola_app.specs.declared.obligation.Obligation.{Obligation}
 use Rattle.lola_app.specs.Deciding.{IsFew, IsFirstWide, IsDecidedBy, IsFirstFailing}
 use Rattle.lola_app.specs.Obligations.{total}
-use Rattle.lola_app.specs.Reply.{lines_of}
+use Rattle.lola_app.specs.Values.{lines_of}
 use Rattle.lola_app.specs.Trial.{tried_widths}
 use Rattle.lola_app.specs.Tried.{printed_names}
 use Rattle.lola_app.proofs.trial.try_claim.Goals as goal

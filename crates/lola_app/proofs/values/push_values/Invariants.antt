@@ -1,6 +1,6 @@
 use Rattle.std.proofs.Common.{◌≡◌, ◌++◌, map, drop}
-use Rattle.lola_app.specs.Reply.{line_of, value_lines}
-use Rattle.lola_app.proofs.reply.push_values.Given as goal
+use Rattle.lola_app.specs.Values.{line_of, value_lines}
+use Rattle.lola_app.proofs.values.push_values.Given as goal
 
 -- the lines so far, and those behind
 abbrev pub invariant-loop-named : goal.invariant-loop-named

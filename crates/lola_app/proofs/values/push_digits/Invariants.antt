@@ -1,6 +1,6 @@
 use Rattle.std.proofs.Common.{◌≡◌, ◌++◌}
-use Rattle.lola_app.specs.Reply.{hex_digits}
-use Rattle.lola_app.proofs.reply.push_digits.Given as goal
+use Rattle.lola_app.specs.Values.{hex_digits}
+use Rattle.lola_app.proofs.values.push_digits.Given as goal
 
 -- the digits so far, and those behind
 abbrev pub invariant-loop-left : goal.invariant-loop-left

@@ -1,6 +1,6 @@
 use Rattle.std.proofs.Common.{arith}
 use Rattle.lola_app.proofs.Trying.{digits_step}
-use Rattle.lola_app.proofs.reply.push_digits.Goals as goal
+use Rattle.lola_app.proofs.values.push_digits.Goals as goal
 
 pub loop-left-preserved : goal.loop-left-preserved
 loop-left-preserved c =
