@@ -17,6 +17,15 @@ use lola_bits::{Memory, Seq};
 use lola_elab::{Logic, Vector, eval};
 use std::alloc::{AllocError, Global};
 
+// Obligations are decided by trying all cases: each valuation of what an obligation leaves free, as the
+// numbers from 0 upward whose bits are those of its vectors, one behind the other. So the first case that
+// fails is the least, no case is left out, and a proof needs no more than that counting meets every number.
+// Diagrams of decisions mostly take less time, and so does a search that learns clauses, which can bring a
+// proof that there is no violation; both are for designs that leave more bits free.
+//
+// It costs a cycle of the design for each of 2 to the number of free bits, at most 16, and the memory of one
+// case. The most that a table of the small form can ask took 11 to 14 seconds (docs/PERFORMANCE.md).
+
 /// Whether all obligations hold at every valuation, or the number of the first that fails with its
 /// least valuation: the numbers of what it leaves free, in order.
 #[derive(Debug, Drop)]
