@@ -13,7 +13,6 @@ use Rattle.lola_width.specs.Order.{first_after}
 use Rattle.lola_width.specs.Sized.{IsWellSized, first_fault}
 use Rattle.lola_elab.specs.Built.{IsBuiltSource}
 use Rattle.lola_elab.specs.Small.{IsSmallSource}
-use Rattle.lola_app.specs.declared.fault.SourceFault.{SourceFault}
 use Rattle.lola_app.specs.declared.fault.SourceFault.TheVariants.{BadByte, NumberTooLarge, OpenComment, Syntax, IllSized, NotBuilt}
 use Rattle.lola_app.specs.declared.fault.SourceRefusal.{SourceRefusal}
 use Rattle.lola_app.specs.declared.fault.SourceRefusal.TheVariants.{Fault, Long}
