@@ -7,3 +7,5 @@ pub mod Placed
 pub mod Ordering
 pub mod NextMeans
 pub mod StateSoFar
+pub mod StepsMean
+pub mod PlainCycle

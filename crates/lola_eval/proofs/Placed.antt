@@ -69,7 +69,7 @@ pub two_kinds : (F : FlatTree) (n : ℕ) (a b : SigKind) → IsKind F n a → Is
 two_kinds F n a b p q = let e : p.0 ≡ q.0 = some_same p.0 q.0 (sym p.1.0 ∙ q.1.0) in sym p.1.1 ∙ ap (λ (s : SignalTree). s.kind) e ∙ q.1.1
 
 -- the equation of a signal is one of its expressions
-its_equation : (s : SignalTree) (e : ExprTree) → s.equation ≡ Some e → IsIn e (expressions s)
+pub its_equation : (s : SignalTree) (e : ExprTree) → s.equation ≡ Some e → IsIn e (expressions s)
 its_equation s e is = in_back e (there s.place) (there s.equation) (subst (λ (o : Option ExprTree). IsIn e (there o)) (sym is) (inl refl))
 
 module _ {D B : Type 0} (F : FlatTree) (m : Meaning D B) (given : Env (List B)) (start : D) where

@@ -9,10 +9,12 @@
 #![tactic(auto)]
 
 mod expr;
+mod laws;
 mod next;
 mod parts;
 mod signals;
 
 pub use expr::lower_expr;
+pub use laws::{one_cycle, plain_finds_places, plain_makes_the_cycle};
 pub use next::{lower_next, lower_state};
 pub use signals::lower_signals;

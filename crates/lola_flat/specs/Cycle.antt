@@ -9,14 +9,17 @@ use Rattle.lola_flat.specs.Tree.{ExprTree, SignalTree, FlatTree}
 use Rattle.lola_flat.specs.Value.{Env, env, value}
 use Rattle.lola_flat.specs.Signals.{IsSignal, widths_of, IsClock}
 
--- a number for each element of a signal, below 2 to its width
+-- numbers are below 2 to the width of a signal, and there is one for each of its elements
+abbrev pub AreBelow : SignalTree → List ℕ → Type 0
+AreBelow s ns = AllByRecursion (λ n. n < 2 ^ s.width) ns
+
 pub record HasValues (s : SignalTree) (ns : List ℕ) : Type 0 where
   pub count : length ns ≡ s.count
-  pub below : AllByRecursion (λ n. n < 2 ^ s.width) ns
+  pub below : AreBelow s ns
 
 -- what a cycle is given: the values of each input but the clock, which has none, and of each register
 abbrev pub IsGivenTo : FlatTree → SignalTree → SigKind → List ℕ → Type 0
-IsGivenTo F s Input ns = (IsClock F s → ns ≡ []) × ((IsClock F s → ⊥) → HasValues s ns)
+IsGivenTo F s Input ns = AreBelow s ns × ((IsClock F s → ns ≡ []) × ((IsClock F s → ⊥) → length ns ≡ s.count))
 IsGivenTo F s Register ns = HasValues s ns
 IsGivenTo F s Pad ns = Unit {0}
 IsGivenTo F s Wire ns = Unit {0}
