@@ -5,3 +5,4 @@ pub mod Sides
 pub mod Widths
 pub mod Below
 pub mod Known
+pub mod Wide
