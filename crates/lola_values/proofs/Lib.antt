@@ -6,3 +6,5 @@ pub mod Widths
 pub mod Below
 pub mod Known
 pub mod Wide
+pub mod Fitting
+pub mod Assigning

@@ -1,5 +1,5 @@
 -- What an expression of a well sized module reads: vectors that are signals but the clock, and arrays of registers.
-use Rattle.std.proofs.Common.{◌≡◌, ◌≢◌, ℕ, Bool, true, false, cond, not, List, [], ◌∷◌, ◌++◌, map, Option, Some, None, refl, sym, ◌∙◌, ap, subst, ◌⊎◌, inl, inr}
+use Rattle.std.proofs.Common.{◌≡◌, ◌≢◌, ℕ, Bool, true, false, cond, not, List, [], ◌∷◌, ◌++◌, map, Option, Some, None, refl, sym, ◌∙◌, ap, subst, ◌⊎◌, inl, inr, ap₂}
 use Rattle.std.specs.Prelude.{bytes_eq, ◌&&◌}
 use Rattle.std.specs.Option.{is_none}
 use Rattle.std.proofs.lemmas.Bool.{cases_Bool, and_parts, false≢true, false_from_ne_true}
@@ -18,7 +18,7 @@ use Rattle.lola_tree.specs.declared.module.LocalKind.{LocalKind}
 use Rattle.lola_tree.specs.declared.module.LocalKind.TheVariants.{Reg, Var, Inst}
 use Rattle.lola_tree.specs.declared.module.Local.{Local}
 use Rattle.lola_tree.specs.Names.{Entry, port, constant, local, Names, names_of, ref_name, first_name, constant_number, kind_shape, entry_shape}
-use Rattle.lola_tree.specs.Width.{Scope, scope_of}
+use Rattle.lola_tree.specs.Width.{Scope, scope_of, vector_width, entry_width, named_shape}
 use Rattle.lola_tree.specs.Tree.{Tree, number, whole, bit, slice, index, concat, negation, binary, choice, Parts, no_part, one_part, ModuleTree, SourceTree}
 use Rattle.lola_tree.specs.Value.{Path}
 use Rattle.lola_tree.specs.design.Signals.{Kind, clock, register, Signal, signals}
@@ -85,31 +85,32 @@ module _ (S : SourceTree) (m : ModuleTree) (p : Path) (clocks : List (List ℕ))
 
   -- what is read as a vector, and as an array
   abbrev pub VectorRead : Ref → Type 0
-  VectorRead r = (x : Signal) × IsIn x (signals S) × (x.kind ≢ clock) × IsVector x.type × (x.path ≡ p ++ r.path)
+  VectorRead r = (x : Signal) × IsIn x (signals S) × (x.kind ≢ clock) × IsVector x.type × (x.path ≡ p ++ r.path) × ((scope_of m).width r ≡ vector_width x.names (Some x.type))
 
   abbrev pub ArrayRead : Ref → Type 0
-  ArrayRead r = (x : Signal) × IsSignal S register x × IsArray x.type × (x.path ≡ p ++ r.path)
+  ArrayRead r = (x : Signal) × IsSignal S register x × IsArray x.type × (x.path ≡ p ++ r.path) × (named_shape (names_of m (ref_name r)) ≡ Some x.type) × (x.names ≡ names_of m)
 
   pub at_ref : (r : Ref) → IsOneName r → (n : List ℕ) → ref_name r ≡ n → p ++ n ∷ [] ≡ p ++ r.path
   at_ref r one n same = ap (λ (k : Path). p ++ k) (ap (λ (k : List ℕ). k ∷ []) (sym same) ∙ sym (one_name r one))
 
-  shown_read : (r : Ref) (path : Path) (type : Shape) (names : Names) → Shown S path type names → IsVector type → path ≡ p ++ r.path → VectorRead r
-  shown_read r path type names x is same = (x.signal, x.there, x.no_clock, subst IsVector (sym x.type_is) is, x.path_is ∙ same)
+  shown_read : (r : Ref) (path : Path) (type : Shape) → Shown S path type (names_of m) → IsVector type → path ≡ p ++ r.path → (scope_of m).width r ≡ vector_width (names_of m) (Some type) → VectorRead r
+  shown_read r path type x is same wide =
+      (x.signal, x.there, x.no_clock, subst IsVector (sym x.type_is) is, x.path_is ∙ same, wide ∙ ap₂ (λ (n : Names) (t : Shape). vector_width n (Some t)) (sym x.names_are) (sym x.type_is))
 
-  local_read : (r : Ref) (l : Local) (k : LocalKind) → is_vector (kind_shape k) ≡ true → IsLocalShown S (p ++ l.name ∷ []) (names_of m) k → p ++ l.name ∷ [] ≡ p ++ r.path → VectorRead r
-  local_read r l (Reg under type) e x same = shown_read r (p ++ l.name ∷ []) type (names_of m) x.0 (vector_is type e) same
-  local_read r l (Var type) e x same = shown_read r (p ++ l.name ∷ []) type (names_of m) x (vector_is type e) same
-  local_read r l (Inst of) e x same = absurd (false≢true e)
+  local_read : (r : Ref) (l : Local) (k : LocalKind) → is_vector (kind_shape k) ≡ true → IsLocalShown S (p ++ l.name ∷ []) (names_of m) k → p ++ l.name ∷ [] ≡ p ++ r.path → (scope_of m).width r ≡ vector_width (names_of m) (kind_shape k) → VectorRead r
+  local_read r l (Reg under type) e x same wide = shown_read r (p ++ l.name ∷ []) type x.0 (vector_is type e) same wide
+  local_read r l (Var type) e x same wide = shown_read r (p ++ l.name ∷ []) type x (vector_is type e) same wide
+  local_read r l (Inst of) e x same wide = absurd (false≢true e)
 
   entry_read : (r : Ref) → IsOneName r → (e : Entry) → names_of m (ref_name r) ≡ Some e → suits use_.Value e ≡ true → constant_number (Some e) ≡ None → is_clock the_clock (ref_name r) ≡ false → VectorRead r
   entry_read r one (port q) named fits free no_clock =
       let f = port_found m (ref_name r) q named in
       let parts = and_parts (not (is_both q.way)) (is_vector (Some q.shape)) fits in
-      shown_read r (p ++ q.name ∷ []) q.shape (names_of m) (s.port q f.0 (λ inward. no_clock_name q.name (subst (λ (n : List ℕ). is_clock the_clock n ≡ false) f.1 no_clock))) (vector_is q.shape parts.1) (at_ref r one q.name f.1)
+      shown_read r (p ++ q.name ∷ []) q.shape (s.port q f.0 (λ inward. no_clock_name q.name (subst (λ (n : List ℕ). is_clock the_clock n ≡ false) f.1 no_clock))) (vector_is q.shape parts.1) (at_ref r one q.name f.1) (ap (entry_width (names_of m)) named)
   entry_read r one (constant c) named fits free no_clock = absurd (let e : Some c.value ≡ None = free in cc)
   entry_read r one (local l) named fits free no_clock =
       let f = local_found m (ref_name r) l named in
-      local_read r l l.kind fits (s.local l f.0) (at_ref r one l.name f.1)
+      local_read r l l.kind fits (s.local l f.0) (at_ref r one l.name f.1) (ap (entry_width (names_of m)) named)
 
   pub value_read : (r : Ref) → IsOneName r → value_faults (names_of m) the_clock r ≡ [] → (scope_of m).number r ≡ None → VectorRead r
   value_read r one none free =
@@ -117,18 +118,19 @@ module _ (S : SourceTree) (m : ModuleTree) (p : Path) (clocks : List (List ℕ))
       let u = used_entry use_.Value r.at (ref_name r) (names_of m (ref_name r)) split.0 in
       entry_read r one u.0 u.1 u.2 (ap constant_number (sym u.1) ∙ free) (none_where (is_clock the_clock (ref_name r)) _ split.1)
 
-  kind_array : (r : Ref) (l : Local) → IsIn l m.locals → (k : LocalKind) → l.kind ≡ k → is_array (kind_shape k) ≡ true → IsLocalShown S (p ++ l.name ∷ []) (names_of m) k → p ++ l.name ∷ [] ≡ p ++ r.path → ArrayRead r
-  kind_array r l there (Reg under type) kind e x same = (x.0.signal, (x.0.there, x.1), subst IsArray (sym x.0.type_is) (array_is type e), x.0.path_is ∙ same)
-  kind_array r l there (Var type) kind e x same =
+  kind_array : (r : Ref) (l : Local) → IsIn l m.locals → (k : LocalKind) → l.kind ≡ k → is_array (kind_shape k) ≡ true → IsLocalShown S (p ++ l.name ∷ []) (names_of m) k → p ++ l.name ∷ [] ≡ p ++ r.path → named_shape (names_of m (ref_name r)) ≡ kind_shape k → ArrayRead r
+  kind_array r l there (Reg under type) kind e x same shaped =
+      (x.0.signal, (x.0.there, x.1), subst IsArray (sym x.0.type_is) (array_is type e), x.0.path_is ∙ same, shaped ∙ ap (λ (t : Shape). Some t) (sym x.0.type_is), x.0.names_are)
+  kind_array r l there (Var type) kind e x same shaped =
       let none = local_clean (names_of m) (seen_behind s.earlier) the_clock m.locals s.clean.locals l there in
       let typed : type_faults (names_of m) false l.at l.name type ≡ [] = subst (λ (k : LocalKind). kind_faults (names_of m) (seen_behind s.earlier) the_clock l.at l.name k ≡ []) kind none in
       absurd (not_both_types type e (type_vector (names_of m) l.at l.name type typed))
-  kind_array r l there (Inst of) kind e x same = absurd (false≢true e)
+  kind_array r l there (Inst of) kind e x same shaped = absurd (false≢true e)
 
   array_entry : (r : Ref) → IsOneName r → (e : Entry) → names_of m (ref_name r) ≡ Some e → suits use_.Indexed e ≡ true → ArrayRead r
   array_entry r one (port q) named fits = let f = port_found m (ref_name r) q named in absurd (not_both_types q.shape fits (ports_vectors (names_of m) m.ports s.clean.ports q f.0))
   array_entry r one (constant c) named fits = absurd (false≢true fits)
-  array_entry r one (local l) named fits = let f = local_found m (ref_name r) l named in kind_array r l f.0 l.kind refl fits (s.local l f.0) (at_ref r one l.name f.1)
+  array_entry r one (local l) named fits = let f = local_found m (ref_name r) l named in kind_array r l f.0 l.kind refl fits (s.local l f.0) (at_ref r one l.name f.1) (ap named_shape named)
 
   pub array_read : (r : Ref) → IsOneName r → use_faults use_.Indexed r.at (ref_name r) (names_of m (ref_name r)) ≡ [] → ArrayRead r
   array_read r one none = let u = used_entry use_.Indexed r.at (ref_name r) (names_of m (ref_name r)) none in array_entry r one u.0 u.1 u.2

@@ -184,7 +184,7 @@ module _ (S : SourceTree) where
       (subst (λ (l : List ActualTree). args_faults names (the_clock S c.module_ c.path link.clocks sc) l (pins_in (seen_behind sa.earlier) a.module_) ≡ []) (sym link.args) none) e is
 
   -- a statement
-  assigned_clean : (names : Names) (seen : Seen) (clock : Option (List ℕ)) (name : List ℕ) (place : Option ActualTree) (x : Tree) (at equals : ℕ) → stmt_faults names seen clock (assignment name place x at equals) ≡ [] → expr_faults names clock x ≡ []
+  pub assigned_clean : (names : Names) (seen : Seen) (clock : Option (List ℕ)) (name : List ℕ) (place : Option ActualTree) (x : Tree) (at equals : ℕ) → stmt_faults names seen clock (assignment name place x at equals) ≡ [] → expr_faults names clock x ≡ []
   assigned_clean names seen clock name None x at equals none = (both_none (use_faults use_.Assigned at name (names name)) (expr_faults names clock x) none).1
   assigned_clean names seen clock name (Some place) x at equals none =
       let split = both_none (use_faults use_.ElementAssigned at name (names name)) (expr_faults names clock place.value ++ expr_faults names clock x) none in

@@ -1,12 +1,15 @@
-ghost use Rattle.std.specs.Prelude.{◌≡◌, ◌≢◌, ◌≤◌, ℕ, List, Option, Some, reverse};
+ghost use Rattle.std.specs.Prelude.{◌≡◌, ◌≢◌, ◌<◌, ◌≤◌, ◌^◌, ℕ, List, Option, Some, reverse};
 ghost use Rattle.lola_bits.specs.Lists.{IsIn};
 ghost use Rattle.lola_tree.specs.Tree.{Tree, ActualTree, assignment, ModuleTree, SourceTree};
 ghost use Rattle.lola_tree.specs.Width.{scope_of, width};
 ghost use Rattle.lola_tree.specs.design.Signals.{Signal, register, signals};
 ghost use Rattle.lola_tree.specs.design.Equations.{Equation, Update, updates};
-ghost use Rattle.lola_tree.specs.design.Chains.{right_paths, right_arrays, flat_equations};
+ghost use Rattle.lola_tree.specs.design.Chains.{names_in, arrays_in, paths_of, right_paths, right_arrays, flat_equations};
+ghost use Rattle.lola_tree.specs.design.Places.{Place, places};
+ghost use Rattle.lola_tree.specs.Value.{Values, value};
+ghost use Rattle.lola_tree.specs.Cycle.{names_at};
 ghost use Rattle.lola_width.specs.Sized.{IsWellSized};
-ghost use Rattle.lola_design.specs.Regular.{IsVector, AreRead, update_paths, update_arrays};
+ghost use Rattle.lola_design.specs.Regular.{IsVector, AreRead, ReadsSuit, update_paths, update_arrays};
 ghost use Rattle.lola_regular.specs.Clocked.{AreClocked};
 ghost use Rattle.lola_regular.specs.Written.{IsWritten};
 
@@ -27,6 +30,14 @@ pub fn reads_are_signals()
 /// Each expression that a well sized design assigns has a width of one bit at least.
 pub fn values_have_widths()
     ensures { (S : SourceTree) (m : ModuleTree) (name : List ℕ) (place : Option ActualTree) (e : Tree) (at equals : ℕ) → IsWellSized S → IsWritten S → IsIn m (reverse S.modules) → IsIn (assignment name place e at equals) m.body → (w : ℕ) × (1 ≤ w) × (width (scope_of m) e ≡ Some w) }
+{
+    what_numbers_elements();
+}
+
+/// The value of an expression that a well sized design assigns at a path is below 2 to its width, where
+/// what it reads has values of its types.
+pub fn values_are_below()
+    ensures { (S : SourceTree) (a : Place) (name : List ℕ) (place : Option ActualTree) (e : Tree) (at equals : ℕ) (v : Values) (w : ℕ) → IsWellSized S → IsWritten S → AreClocked (reverse S.modules) → IsIn a (places S) → IsIn (assignment name place e at equals) a.module_.body → ReadsSuit S (paths_of a.path (names_in (scope_of a.module_) e)) (paths_of a.path (arrays_in e)) v → width (scope_of a.module_) e ≡ Some w → value (scope_of a.module_) e (names_at a.path v) < 2 ^ w }
 {
     what_numbers_elements();
 }

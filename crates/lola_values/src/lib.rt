@@ -7,4 +7,4 @@
 
 mod laws;
 
-pub use laws::{reads_are_signals, types_are_vectors, values_have_widths};
+pub use laws::{reads_are_signals, types_are_vectors, values_are_below, values_have_widths};
