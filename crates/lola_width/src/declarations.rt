@@ -131,3 +131,11 @@ pub fn declared<'a>(
     declare_locals(alloc, &mut table, module.locals.items(), first)?;
     Ok(table)
 }
+
+/// The names of a module, each with its earliest declaration.
+pub fn module_names(alloc: Global, module: &Module) -> Result<Table<'_>, Memory>
+    ensures { IfOk result (λ table. found table ≡ names_of (module_tree «module».now)) }
+{
+    let mut first = None;
+    declared(alloc, module, &mut first)
+}

@@ -27,5 +27,9 @@ mod width_stage;
 mod widths;
 
 pub use check::sizes;
+pub use counts::{count_number, ref_name};
+pub use declarations::module_names;
+pub use declared::Declared;
 pub use fault::SourceFault;
 pub use laws::{answers_first, what_is_assigned, what_is_doubled, what_numbers_elements};
+pub use table::Table;
