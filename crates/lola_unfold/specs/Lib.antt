@@ -1,0 +1,5 @@
+pub mod Tables
+pub mod Measured
+pub mod Slots
+pub mod Translated
+pub mod Flat
