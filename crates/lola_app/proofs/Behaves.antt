@@ -1,10 +1,11 @@
 -- What a design of vectors does, over the names of its inputs and registers.
 use Rattle.std.proofs.Common.{◌≡◌, ℕ, suc, ◌+◌, ◌*◌, ◌≤◌, Bool, true, false, List, [], ◌∷◌, ◌++◌, length, map, Option, Some, None, refl, sym, ap, ap₂, ◌∙◌, subst, arith, inl, inr, ◌⊎◌}
-use Rattle.std.proofs.lemmas.List.{map-append}
+use Rattle.std.proofs.lemmas.List.{map-append, length-map}
 use Rattle.std.specs.Prelude.{filter, ◌&&◌, not, string_bytes, bytes_eq}
+use Rattle.std.proofs.lemmas.Bool.{cases_Bool}
 use Rattle.lola_bits.specs.Lists.{IsIn, AreDistinct}
 use Rattle.lola_bits.specs.Names.{is_among}
-use Rattle.lola_bits.proofs.Lists.{from_map, to_map, from_filter, distinct_front, distinct_back}
+use Rattle.lola_bits.proofs.Lists.{from_map, to_map, from_filter, distinct_front, distinct_back, distinct_filter, filter_few}
 use Rattle.lola_bits.proofs.Names.{same_name, is_same_name}
 use Rattle.lola_tree.specs.declared.named.Shape.{Shape}
 use Rattle.lola_tree.specs.declared.named.Shape.TheVariants as shape
@@ -31,20 +32,8 @@ use Rattle.lola_elab.proofs.Widths.{checked_is, number_in}
 use Rattle.lola_app.specs.Obligations.{root_width, total}
 use Rattle.lola_app.specs.Small.{width_in}
 use Rattle.lola_app.specs.Valuations.{AreWithin}
-use Rattle.lola_app.proofs.Leaves.{length_map, values_agree, valued, value_under, read_back, within_long}
-use Rattle.lola_app.proofs.Orders.{either}
+use Rattle.lola_app.proofs.Leaves.{values_agree, valued, value_under, read_back, within_long}
 
--- of distinct names some are distinct
-distinct_filter : {X : Type 0} (f : X → List ℕ) (test : X → Bool) (xs : List X) → AreDistinct (map f xs) → AreDistinct (map f (filter test xs))
-distinct_filter f test [] distinct = tt
-distinct_filter f test (x ∷ xs) distinct =
-    elim (either (test x)) [
-      | inl e ↦ rw e (
-        (λ is. let found = from_map f (f x) (filter test xs) is in
-            distinct.0 (subst (λ (n : List ℕ). IsIn n (map f xs)) (sym found.2) (to_map f found.0 xs (from_filter test found.0 xs found.1).0))),
-        distinct_filter f test xs distinct.1,
-      )
-      | inr e ↦ rw e (distinct_filter f test xs distinct.1)
     ]
 
 of_local : (kind : LocalKind) (own name : List ℕ) (xs ys : List (List ℕ)) → (IsIn name xs → IsIn name ys) → IsIn name (name_of_register kind own ++ xs) → (name ≡ own) ⊎ IsIn name ys
@@ -76,16 +65,6 @@ registers_distinct m small =
     distinct_locals m.locals (distinct_back _ (map (λ (l : Local). l.name) m.locals)
     (distinct_back (map (λ (p : Port). p.name) m.ports) _ (subst AreDistinct (entry_names m.ports m.consts m.locals) small.distinct)))
 
--- there are no more of them than ports and locals
-pub few_filter : {X : Type 0} (test : X → Bool) (xs : List X) → length (filter test xs) ≤ length xs
-few_filter test [] = omega arith
-few_filter test (x ∷ xs) =
-    let h = few_filter test xs in
-    elim (either (test x)) [
-      | inl e ↦ rw e (omega arith)
-      | inr e ↦ rw e (omega arith)
-    ]
-
 few_registers : (ls : List Local) → length (register_names ls) ≤ length ls
 few_registers [] = omega arith
 few_registers (l ∷ ls) = more l.kind (few_registers ls)
@@ -97,8 +76,8 @@ few_registers (l ∷ ls) = more l.kind (few_registers ls)
 
 few_leaves : (m : ModuleTree) → IsSmallModule m → length (input_names m) + length (register_names m.locals) ≤ 65536
 few_leaves m small =
-    let a = few_filter (λ (p : Port). is_inward p.way && not (is_among (clock_names m.locals) p.name)) m.ports in
-    let b = length_map (λ (p : Port). p.name) (filter (λ (p : Port). is_inward p.way && not (is_among (clock_names m.locals) p.name)) m.ports) in
+    let a = filter_few (λ (p : Port). is_inward p.way && not (is_among (clock_names m.locals) p.name)) m.ports in
+    let b = length-map (filter (λ (p : Port). is_inward p.way && not (is_among (clock_names m.locals) p.name)) m.ports) (λ (p : Port). p.name) in
     let c = few_registers m.locals in
     let d = small.few_signals in
     omega (arith, a, b, c, d)
@@ -172,7 +151,7 @@ within_fit E (x ∷ names) (w ∷ ws) [] e within name among = absurd within
 within_fit E (x ∷ names) (w ∷ ws) (n ∷ ns) e within name among =
     let head : Some w ≡ E x = cc in
     let tail : map (λ (w : ℕ). Some w) ws ≡ map E names = cc in
-    elim (either (bytes_eq x name)) [
+    elim (cases_Bool (bytes_eq x name)) [
       | inl same ↦ rw same (subst (λ (y : List ℕ). FitsIn (E y) n) (is_same_name x name same) (subst (λ (o : Option ℕ). FitsIn o n) head within.0))
       | inr other ↦ rw other (within_fit E names ws ns tail within.1 name (behind other among))
     ]
@@ -248,7 +227,7 @@ module _ (S : SourceTree) (d : Design) (made : Elaborates S d) where
   both_widths : (map (λ (w : ℕ). Some w) (vector_widths d.inputs.items) ≡ map (width_of m) (input_names m)) × (map (λ (w : ℕ). Some w) (vector_widths d.registers.items) ≡ map (width_of m) (register_names m.locals))
   both_widths =
       split_maps (λ (w : ℕ). Some w) (width_of m) (vector_widths d.inputs.items) (vector_widths d.registers.items) (input_names m) (register_names m.locals)
-      (length_map (λ (v : Vector). v.width) d.inputs.items ∙ sym (length_map (λ (v : Vector). string_bytes v.name) d.inputs.items) ∙ ap length made.inputs) made.widths
+      (length-map d.inputs.items (λ (v : Vector). v.width) ∙ sym (length-map d.inputs.items (λ (v : Vector). string_bytes v.name)) ∙ ap length made.inputs) made.widths
 
   inputs_wide : map (λ (w : ℕ). Some w) (vector_widths d.inputs.items) ≡ map (width_of m) (vector_names d.inputs.items)
   inputs_wide = both_widths.0 ∙ ap (map (width_of m)) (sym made.inputs)
@@ -313,14 +292,14 @@ module _ (S : SourceTree) (d : Design) (made : Elaborates S d) where
 
   long_names : (vs : List Vector) (ns : List ℕ) → AreWithin (vector_widths vs) ns → length ns ≡ length (vector_names vs)
   long_names vs ns within =
-      within_long (vector_widths vs) ns within ∙ length_map (λ (v : Vector). v.width) vs ∙ sym (length_map (λ (v : Vector). string_bytes v.name) vs)
+      within_long (vector_widths vs) ns within ∙ length-map vs (λ (v : Vector). v.width) ∙ sym (length-map vs (λ (v : Vector). string_bytes v.name))
 
   few_vectors : length d.inputs.items + length d.registers.items ≤ 65536
   few_vectors =
       let a : length (vector_names d.inputs.items) ≡ length (input_names m) = ap length made.inputs in
       let b : length (vector_names d.registers.items) ≡ length (register_names m.locals) = ap length made.registers in
-      let c = length_map (λ (v : Vector). string_bytes v.name) d.inputs.items in
-      let e = length_map (λ (v : Vector). string_bytes v.name) d.registers.items in
+      let c = length-map d.inputs.items (λ (v : Vector). string_bytes v.name) in
+      let e = length-map d.registers.items (λ (v : Vector). string_bytes v.name) in
       let f = few_leaves m made.small.small in
       omega (arith, a, b, c, e, f)
 
@@ -336,8 +315,8 @@ module _ (S : SourceTree) (d : Design) (made : Elaborates S d) where
     few_bits =
         let a = narrow_total m (vector_widths d.inputs.items) (vector_names d.inputs.items) inputs_wide in
         let b = narrow_total m (vector_widths d.registers.items) (vector_names d.registers.items) registers_wide in
-        let c = length_map (λ (v : Vector). v.width) d.inputs.items in
-        let e = length_map (λ (v : Vector). v.width) d.registers.items in
+        let c = length-map d.inputs.items (λ (v : Vector). v.width) in
+        let e = length-map d.registers.items (λ (v : Vector). v.width) in
         let f = few_vectors in
         let g = total_append (vector_widths d.inputs.items) (vector_widths d.registers.items) in
         omega (arith, a, b, c, e, f, g);

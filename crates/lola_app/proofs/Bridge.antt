@@ -2,8 +2,8 @@
 use Rattle.std.proofs.Common.{◌≡◌, ℕ, zero, suc, ◌+◌, ◌<◌, ◌≤◌, ◌^◌, Bool, true, false, not, cond, List, [], ◌∷◌, ◌++◌, length, map, take, drop, Some, refl, sym, ap, ap₂, ◌∙◌, subst, arith, inl, inr, length-append}
 use Rattle.std.specs.Prelude.{slice_get, slice_index_or, ◌&&◌, nat_eq, if◌then◌else◌, string_bytes}
 use Rattle.std.proofs.lemmas.Option.{slice_get_within}
-use Rattle.std.proofs.lemmas.List.{length-take-le}
-use Rattle.lola_bits.specs.Lists.{IsIn}
+use Rattle.std.proofs.lemmas.List.{length-take-le, length-map}
+use Rattle.lola_bits.specs.Lists.{IsIn, IsAt}
 use Rattle.lola_tree.specs.Tree.{SourceTree}
 use Rattle.lola_tree.specs.Value.{Values}
 use Rattle.lola_tree.specs.Cycle.{IsState, IsGiven, Cycle, Next}
@@ -23,14 +23,13 @@ use Rattle.lola_app.specs.declared.obligation.Which.TheVariants as which
 use Rattle.lola_app.specs.declared.subject.Subject.{Subject}
 use Rattle.lola_app.specs.Claiming.{AreLeaves, IsClaimedState, IsClaimedStart, IsClaimOf}
 use Rattle.lola_app.specs.Headline.{shown, answer_of, IsActive, IsIdle}
-use Rattle.lola_app.specs.Naming.{IsAt}
 use Rattle.lola_app.specs.Obligations.{Goal, invariant, boundary, start, state, Obligation, cover, reset, ends, Valuation, IsValuation, ResetGoal, EndGoal, Premises, HoldsAt, IsViolatedAt, without, free_values}
 use Rattle.lola_app.specs.Small.{Interface}
 use Rattle.lola_app.specs.Trial.{same_bit, but_one, with_reset, seen, next_numbers, leaves_before, leaves_after, place_fits, end_passes, premises, reset_at, end_at, passes, tried_widths}
 use Rattle.lola_app.specs.Valuations.{AreWithin}
 use Rattle.lola_app.specs.Vectors.{bit_names, face_of, interface_in}
 use Rattle.lola_app.proofs.Behaves.{Behaves}
-use Rattle.lola_app.proofs.Leaves.{length_map, front_bits, both_bits, bit_back, bit_low, seen_are, seen_append, within_both, within_long, halves, within_put, within_out, put_in, take_out}
+use Rattle.lola_app.proofs.Leaves.{front_bits, both_bits, bit_back, bit_low, seen_are, seen_append, within_both, within_long, halves, within_put, within_out, put_in, take_out}
 
 -- a trial at the free values of a valuation decides the obligation there
 pub record Decides (S : SourceTree) (T : TableTree) (subject : Subject) (o : Obligation) (which : Which) : Type 0 where
@@ -147,7 +146,7 @@ module _ (S : SourceTree) (T : TableTree) (subject : Subject) (fit : Fitting S T
       ∙ ap (map bit_number) (sym apart))
 
   seen_inputs : (inp : Values) → length (values_of inp (interface_in claim.face).inputs) ≡ length claim.face.inputs.items
-  seen_inputs inp = length_map (λ (name : List ℕ). inp (name ∷ []) 0) (interface_in claim.face).inputs ∙ length_map string_bytes claim.face.inputs.items
+  seen_inputs inp = length-map (interface_in claim.face).inputs (λ (name : List ℕ). inp (name ∷ []) 0) ∙ length-map claim.face.inputs.items string_bytes
 
   after_are : (s inp v s' : Values) → IsState S s → IsGiven S inp → Cycle S s inp v → Next S v s' → AreLeaves (interface_in claim.face) s' inp (leaves_after subject (all s inp))
   after_are s inp v s' suits given cycle next =

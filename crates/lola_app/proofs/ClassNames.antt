@@ -1,9 +1,11 @@
 -- What the names of a class mean over the leaves of a design.
 use Rattle.std.proofs.Common.{◌≡◌, ◌≢◌, ℕ, Bool, true, false, List, [], ◌∷◌, ◌++◌, map, Some, None, refl, sym, ap, subst, ◌∙◌, inl, inr, ◌⊎◌}
 use Rattle.std.specs.Prelude.{bytes_eq, string_bytes, if◌then◌else◌, Option, codes}
-use Rattle.lola_bits.specs.Lists.{IsIn}
-use Rattle.lola_bits.proofs.Names.{same_name, is_same_name, other_name}
+use Rattle.std.proofs.lemmas.Bool.{cases_Bool}
+use Rattle.lola_bits.specs.Lists.{IsIn, AreEach, IsAt}
+use Rattle.lola_bits.proofs.Names.{same_name, is_same_name, other_name, same_or_not}
 use Rattle.lola_bits.proofs.Lists.{in_front, in_back, in_either}
+use Rattle.lola_bits.proofs.Options.{nothing}
 use Rattle.lola_tree.specs.Value.{Path, Values}
 use Rattle.lola_elab.specs.declared.scope.Reading.{Reading}
 use Rattle.lola_elab.specs.declared.scope.Reading.TheVariants as reading
@@ -12,23 +14,15 @@ use Rattle.lola_elab.specs.Scope.{find, find_path, reading_number}
 use Rattle.small_tree.specs.Table.{StateTree, ClassTree, PhaseTree, TableTree}
 use Rattle.small_tree.specs.Step.{class_names, bare_value, state_value, loaded_word, loads_first}
 use Rattle.lola_app.specs.declared.states.Shown.{Shown}
-use Rattle.lola_app.specs.Claiming.{AreEach, AreLeaves}
+use Rattle.lola_app.specs.Claiming.{AreLeaves}
 use Rattle.lola_app.specs.Classes.{IsTaken}
 use Rattle.lola_app.specs.Headline.{shown, answer_of, role_value}
-use Rattle.lola_app.specs.Naming.{IsAt}
 use Rattle.lola_app.specs.Scoping.{HasClassNames, Entered, loaded_entry, state_entries}
 use Rattle.lola_app.specs.Shown.{IsShown, IsLoadedAt}
 use Rattle.lola_app.specs.Small.{Interface, IsInClass, IsClassName, state_names, is_taken}
 use Rattle.lola_app.specs.Starts.{leaf_under}
 use Rattle.lola_app.proofs.ScopeMeans.{IsScope, no_path, bare_reading, source_reading, input_value, entered_under, names_shown, first_entry, find_entered, first_state, leaf_reading}
-use Rattle.lola_app.proofs.Orders.{either}
-use Rattle.lola_app.proofs.Places.{not_none}
 
--- two names are the same, or they differ
-same_or_not : (x y : List ℕ) → (x ≡ y) ⊎ (x ≢ y)
-same_or_not x y = elim (either (bytes_eq x y)) [
-  | inl e ↦ inl (is_same_name x y e)
-  | inr e ↦ inr (λ same. let f : true ≡ false = sym (same_name x y same) ∙ e in cc)
 ]
 
 -- the first entry under a name is there exactly where the name is among those of the entries
@@ -38,14 +32,14 @@ entry_names entries = map (λ (e : Entered). e.0) entries
 entry_there : (entries : List Entered) (name : List ℕ) → IsIn name (entry_names entries) → (one : Reading) × (first_entry entries name ≡ Some one)
 entry_there [] name among = absurd among
 entry_there (e ∷ entries) name (inl same) = (e.1, rw (same_name e.0 name (sym same)) refl)
-entry_there (e ∷ entries) name (inr later) = elim (either (bytes_eq e.0 name)) [
+entry_there (e ∷ entries) name (inr later) = elim (cases_Bool (bytes_eq e.0 name)) [
   | inl h ↦ (e.1, rw h refl)
   | inr h ↦ let more = entry_there entries name later in (more.0, rw h more.1)
 ]
 
 entry_named : (entries : List Entered) (name : List ℕ) (one : Reading) → first_entry entries name ≡ Some one → IsIn name (entry_names entries)
-entry_named [] name one some = absurd (not_none one some)
-entry_named (e ∷ entries) name one some = elim (either (bytes_eq e.0 name)) [
+entry_named [] name one some = nothing one some
+entry_named (e ∷ entries) name one some = elim (cases_Bool (bytes_eq e.0 name)) [
   | inl h ↦ inl (sym (is_same_name e.0 name h))
   | inr h ↦ inr (entry_named entries name one (sym (passed h) ∙ some))
 ]
@@ -73,9 +67,9 @@ first_loads : (phases : List PhaseTree) (phase : PhaseTree) → phases ≡ phase
 first_loads phases phase e = ap loads_first e
 
 taken_some : (phases : List PhaseTree) (loaded : Option ℕ) (leaf : ℕ) → IsTaken phases loaded (Some leaf) → (loads_first phases ≡ true) × (loaded ≡ Some leaf)
-taken_some phases loaded leaf is = elim (either is.plain.phase.loads) [
+taken_some phases loaded leaf is = elim (cases_Bool is.plain.phase.loads) [
   | inl on ↦ (first_loads phases is.plain.phase is.plain.one_phase ∙ on, sym (is.taken_is ∙ on_is is.plain.phase.loads on))
-  | inr off ↦ absurd (not_none leaf (sym (off_is is.plain.phase.loads off) ∙ sym is.taken_is))
+  | inr off ↦ nothing leaf (sym (off_is is.plain.phase.loads off) ∙ sym is.taken_is)
 ]
   where
     on_is : (b : Bool) → b ≡ true → (if b then loaded else None) ≡ loaded
@@ -85,10 +79,10 @@ taken_some phases loaded leaf is = elim (either is.plain.phase.loads) [
     off_is b off = rw off refl
 
 taken_none : (phases : List PhaseTree) (loaded : Option ℕ) → IsTaken phases loaded None → loads_first phases ≡ false
-taken_none phases loaded is = elim (either is.plain.phase.loads) [
+taken_none phases loaded is = elim (cases_Bool is.plain.phase.loads) [
   | inl on ↦
       let there = is.plain.loads on in
-      absurd (not_none there.0 (is.taken_is ∙ on_is is.plain.phase.loads on ∙ there.1))
+      nothing there.0 (is.taken_is ∙ on_is is.plain.phase.loads on ∙ there.1)
   | inr off ↦ first_loads phases is.plain.phase is.plain.one_phase ∙ off
 ]
   where
@@ -96,7 +90,7 @@ taken_none phases loaded is = elim (either is.plain.phase.loads) [
     on_is b on = rw on refl
 
 loaded_is : (inputs : List (List ℕ)) (role : Option (List ℕ)) (loaded : Option ℕ) (leaf : ℕ) → IsLoadedAt inputs role loaded → loaded ≡ Some leaf → (port : List ℕ) × (role ≡ Some port) × IsAt inputs leaf port
-loaded_is inputs None None leaf at e = absurd (not_none leaf e)
+loaded_is inputs None None leaf at e = nothing leaf e
 loaded_is inputs None (Some other) leaf at e = absurd at
 loaded_is inputs (Some port) None leaf at e = absurd at
 loaded_is inputs (Some port) (Some other) leaf at e =
@@ -150,7 +144,7 @@ module _ (face : Interface) (T : TableTree) (c : ClassTree) (states : List Shown
   state_reads s inp leaves are name one some = go (leaf_under states name) refl
     where
       go : (under : Option ℕ) → leaf_under states name ≡ under → IsIn name (state_names T) × (state_value T.states (shown T s) name ≡ reading_number one leaves)
-      go None e = absurd (not_none one (sym (first_state states name ∙ ap leaf_reading e) ∙ some))
+      go None e = nothing one (sym (first_state states name ∙ ap leaf_reading e) ∙ some)
       go (Some leaf) e =
           let known : Some (reading.Leaf leaf) ≡ Some one = sym (first_state states name ∙ ap leaf_reading e) ∙ some in
           let same : reading.Leaf leaf ≡ one = cc in
@@ -214,13 +208,13 @@ module _ (face : Interface) (T : TableTree) (c : ClassTree) (states : List Shown
       next_is i = rw (other_name (codes "i") name (λ e. i (sym e))) refl
 
   path_found : (path : Path) (one : Reading) → find_path scope.bare.items path ≡ Some one → (name : List ℕ) × (path ≡ name ∷ []) × (first_entry entries name ≡ Some one)
-  path_found [] one some = absurd (not_none one some)
+  path_found [] one some = nothing one some
   path_found (name ∷ []) one some = (name, refl, sym (found name) ∙ some)
-  path_found (name ∷ other ∷ more) one some = absurd (not_none one some)
+  path_found (name ∷ other ∷ more) one some = nothing one some
 
   pub class_is_scope : IsScope face (IsInClass T c) (λ s inp. class_names T (shown T s) 0 (loaded_word c (answer_of T inp))) scope
   class_is_scope = record {
-    reads = λ s inp leaves are r one is_one. elim (either r.source) [
+    reads = λ s inp leaves are r one is_one. elim (cases_Bool r.source) [
       | inl e ↦ absurd (no_path scope.source.items r.path one has.source (sym (source_reading scope r e) ∙ is_one))
       | inr e ↦
           let there = path_found r.path one (sym (bare_reading scope r e) ∙ is_one) in
@@ -229,7 +223,7 @@ module _ (face : Interface) (T : TableTree) (c : ClassTree) (states : List Shown
     has = λ r of.
         let there = entry_there entries of.1.0 (to_entry of.1.0 of.1.2) in
         (there.0, bare_reading scope r of.0 ∙ ap (find_path scope.bare.items) of.1.1 ∙ found of.1.0 ∙ there.1);
-    only = λ r of. elim (either r.source) [
+    only = λ r of. elim (cases_Bool r.source) [
       | inl e ↦ absurd (no_path scope.source.items r.path of.0 has.source (sym (source_reading scope r e) ∙ of.1))
       | inr e ↦
           let there = path_found r.path of.0 (sym (bare_reading scope r e) ∙ of.1) in

@@ -1,7 +1,11 @@
 -- What two texts lead to, from what trying the claim that was made of them came to.
 use Rattle.std.proofs.Common.{◌≡◌, ℕ, ◌+◌, ◌<◌, ◌≤◌, List, [], ◌∷◌, length, map, Some, refl, sym, ap, ap₂, ◌∙◌, subst, arith, inl, inr}
 use Rattle.std.specs.Prelude.{filter, nat_eq, slice_get, string_bytes, Result, Ok, Err, IfOk}
+use Rattle.std.proofs.lemmas.List.{length-map}
+use Rattle.std.proofs.lemmas.Bool.{cases_Bool}
 use Rattle.lola_bits.specs.declared.memory.Memory.{Memory}
+use Rattle.lola_bits.specs.Lists.{IsAt}
+use Rattle.lola_bits.proofs.Lists.{filter_few}
 use Rattle.lola_tree.specs.Tree.{ModuleTree, SourceTree}
 use Rattle.lola_tree.specs.Value.{Values}
 use Rattle.lola_tree.specs.Cycle.{IsState, IsGiven, Cycle, Next}
@@ -22,17 +26,14 @@ use Rattle.lola_app.specs.DecideReply.{DecideOutcome, refused, table_not_built, 
 use Rattle.lola_app.specs.Headline.{Resets, Commutes}
 use Rattle.lola_app.specs.Listing.{named_of}
 use Rattle.lola_app.specs.Made.{IsDesignOf, IsTableOf}
-use Rattle.lola_app.specs.Naming.{IsAt}
 use Rattle.lola_app.specs.Obligations.{obligations, AllHold, free_names, free_widths}
 use Rattle.lola_app.specs.Small.{Interface, width_in, bits_among, interface_of, IsSmallTable}
 use Rattle.lola_app.specs.Trial.{IsTriable}
 use Rattle.lola_app.specs.Tried.{AllPass, OneFails, OneIsWide, IsTried}
 use Rattle.lola_app.specs.Values.{Line, lines_of}
 use Rattle.lola_app.specs.Vectors.{bit_names, face_of, interface_in}
-use Rattle.lola_app.proofs.Behaves.{Behaves, behaves, few_filter, input_widths_are, register_widths_are}
+use Rattle.lola_app.proofs.Behaves.{Behaves, behaves, input_widths_are, register_widths_are}
 use Rattle.lola_app.proofs.Bridge.{Fitting}
-use Rattle.lola_app.proofs.Leaves.{length_map}
-use Rattle.lola_app.proofs.Orders.{either}
 use Rattle.lola_app.proofs.Verdict.{IsEntry, each_long, each_entry, all_hold, all_narrow, first_fails, first_is_wide}
 
 -- the laws that a yes stands on
@@ -51,7 +52,7 @@ bits_are W [] e = refl
 bits_are W (x ∷ xs) e =
     let head : x.width ≡ W (string_bytes x.name) = cc in
     let tail : vector_widths xs ≡ map W (vector_names xs) = cc in
-    elim (either (nat_eq x.width 1)) [
+    elim (cases_Bool (nat_eq x.width 1)) [
       | inl on ↦
           let on' = ap (λ (n : ℕ). nat_eq n 1) (sym head) ∙ on in
           rw (on, on') (ap (λ (ns : List (List ℕ)). string_bytes x.name ∷ ns) (bits_are W xs tail))
@@ -84,14 +85,14 @@ small_face S design face T made sees fits =
 -- a design's vectors of one bit aren't more than its vectors
 few_bits : (vs : List Vector) → length (bit_names vs) ≤ length vs
 few_bits vs =
-    let a = length_map (λ (v : Vector). string_bytes v.name) (filter (λ (v : Vector). nat_eq v.width 1) vs) in
-    let b = few_filter (λ (v : Vector). nat_eq v.width 1) vs in
+    let a = length-map (filter (λ (v : Vector). nat_eq v.width 1) vs) (λ (v : Vector). string_bytes v.name) in
+    let b = filter_few (λ (v : Vector). nat_eq v.width 1) vs in
     omega (arith, a, b)
 
 pub few_seen : (S : SourceTree) (design : Design) (face : Face) → Elaborates S design → interface_in face ≡ face_of design → length face.inputs.items + length face.registers.items ≤ 65536
 few_seen S design face made sees =
-    let a : length face.inputs.items ≡ length (bit_names design.inputs.items) = sym (length_map string_bytes face.inputs.items) ∙ ap (λ (f : Interface). length f.inputs) sees in
-    let b : length face.registers.items ≡ length (bit_names design.registers.items) = sym (length_map string_bytes face.registers.items) ∙ ap (λ (f : Interface). length f.registers) sees in
+    let a : length face.inputs.items ≡ length (bit_names design.inputs.items) = sym (length-map face.inputs.items string_bytes) ∙ ap (λ (f : Interface). length f.inputs) sees in
+    let b : length face.registers.items ≡ length (bit_names design.registers.items) = sym (length-map face.registers.items string_bytes) ∙ ap (λ (f : Interface). length f.registers) sees in
     let c = few_bits design.inputs.items in
     let d = few_bits design.registers.items in
     let e : length design.inputs.items + length design.registers.items ≤ 65536 = Behaves.few (behaves S design made) in

@@ -3,10 +3,10 @@ use Rattle.std.proofs.Common.{◌≡◌, ℕ, ◌+◌, ◌<◌, true, List, ◌�
 use Rattle.std.specs.Prelude.{nat_eq, string_bytes, slice_get}
 use Rattle.std.specs.Option.{option_map}
 use Rattle.std.proofs.lemmas.Option.{slice_get_read, slice_get-map}
+use Rattle.lola_bits.specs.Lists.{IsAt}
 use Rattle.lola_bits.proofs.Places.{drop_item}
 use Rattle.lola_elab.specs.declared.vector.Vector.{Vector}
 use Rattle.lola_elab.specs.Elaborated.{vector_widths}
-use Rattle.lola_app.specs.Naming.{IsAt}
 use Rattle.lola_app.specs.Vectors.{bit_names}
 
 -- one more of them

@@ -2,6 +2,8 @@
 use Rattle.std.proofs.Common.{◌≡◌, ℕ, ◌+◌, ◌≤◌, Bool, true, false, List, [], ◌∷◌, length, map, Some, None, refl, sym, ap, subst, ◌∙◌, inl, inr, arith}
 use Rattle.std.specs.Prelude.{string_bytes, Option, slice_index_or, bytes_eq}
 use Rattle.std.specs.List.{AllByRecursion}
+use Rattle.std.proofs.lemmas.Bool.{cases_Bool}
+use Rattle.lola_bits.specs.Lists.{AreEach, IsAt}
 use Rattle.lola_tree.specs.declared.named.Ref.{Ref}
 use Rattle.lola_tree.specs.Tree.{Tree}
 use Rattle.lola_tree.specs.Value.{Values}
@@ -17,11 +19,10 @@ use Rattle.lola_app.specs.declared.claim.State.{State}
 use Rattle.lola_app.specs.declared.claim.Start.{Start}
 use Rattle.lola_app.specs.declared.roles.Roles.{Roles}
 use Rattle.lola_app.specs.declared.states.Shown.{Shown}
-use Rattle.lola_app.specs.Claiming.{AreEach, MeansBit, IsClaimedState, IsClaimedStart, IsClaimOf}
+use Rattle.lola_app.specs.Claiming.{MeansBit, IsClaimedState, IsClaimedStart, IsClaimOf}
 use Rattle.lola_app.specs.Classes.{IsPlainPhase, IsTaken}
 use Rattle.lola_app.specs.Fitting.{IsSetState}
 use Rattle.lola_app.specs.Headline.{shown, answer_of}
-use Rattle.lola_app.specs.Naming.{IsAt}
 use Rattle.lola_app.specs.Scoping.{HasRegisters, HasClassNames}
 use Rattle.lola_app.specs.Shown.{IsShown, IsLoadedAt, AreRoles}
 use Rattle.lola_app.specs.Small.{Interface, IsSourceRegister, IsNoName, IsInClass, state_names, IsSmallRow, AreSmallRows, IsSmallClass, AreSmallStates, IsSmallTable}
@@ -29,7 +30,6 @@ use Rattle.lola_app.specs.Starts.{leaf_under, IsStartRow}
 use Rattle.lola_app.specs.Vectors.{interface_in}
 use Rattle.lola_app.proofs.ClassNames.{class_is_scope}
 use Rattle.lola_app.proofs.ScopeMeans.{IsScope, small_map, registers_scope, shown_value, entered_under, names_shown}
-use Rattle.lola_app.proofs.Orders.{either}
 
 -- an expression that was read in a scope means the same over the leaves
 read_in : (face : Interface) (Names : Ref → Type 0) (names : Values → Values → Ref → ℕ) (scope : Scope) (e : Tree) (logic : Logic) → IsScope face Names names scope →
@@ -68,7 +68,7 @@ leaf_behind : (face : Interface) (rows : List StateTree) (states : List Shown) (
 leaf_behind face [] [] name leaf each under = absurd (let f : None ≡ Some leaf = under in cc)
 leaf_behind face [] (x ∷ states) name leaf each under = absurd each
 leaf_behind face (row ∷ rows) [] name leaf each under = absurd each
-leaf_behind face (row ∷ rows) (x ∷ states) name leaf each under = elim (either (bytes_eq (string_bytes x.name) name)) [
+leaf_behind face (row ∷ rows) (x ∷ states) name leaf each under = elim (cases_Bool (bytes_eq (string_bytes x.name) name)) [
   | inl same ↦
       let f : Some x.leaf ≡ Some leaf = sym (taken same) ∙ under in
       let known : x.leaf ≡ leaf = cc in

@@ -2,9 +2,11 @@
 -- them that a table sees.
 use Rattle.std.proofs.Common.{◌≡◌, ℕ, zero, suc, ◌+◌, ◌<◌, ◌≤◌, ◌^◌, Bool, true, false, List, [], ◌∷◌, ◌++◌, length, map, take, drop, Some, None, refl, sym, ap, ap₂, ◌∙◌, subst, arith, inl, inr}
 use Rattle.std.specs.Prelude.{bytes_eq, nat_eq, slice_get, string_bytes, if◌then◌else◌}
-use Rattle.std.proofs.lemmas.List.{map-append}
-use Rattle.lola_bits.specs.Lists.{IsIn, AreDistinct}
+use Rattle.std.proofs.lemmas.List.{map-append, length-map}
+use Rattle.std.proofs.lemmas.Bool.{cases_Bool}
+use Rattle.lola_bits.specs.Lists.{IsIn, AreDistinct, IsAt}
 use Rattle.lola_bits.proofs.Names.{same_name, other_name}
+use Rattle.lola_bits.proofs.Places.{get_in}
 use Rattle.lola_tree.specs.Value.{Values}
 use Rattle.lola_tree.specs.Signals.{values_of}
 use Rattle.lola_elab.specs.declared.vector.Vector.{Vector}
@@ -12,17 +14,10 @@ use Rattle.lola_elab.specs.Elaborated.{vector_names, vector_widths}
 use Rattle.lola_elab.specs.Logic.{bit_number, AreBits}
 use Rattle.lola_elab.proofs.Widths.{equal_is}
 use Rattle.small_tree.specs.Step.{name_of}
-use Rattle.lola_app.specs.Naming.{IsAt}
 use Rattle.lola_app.specs.Obligations.{without}
 use Rattle.lola_app.specs.Trial.{but_one, with_reset, seen}
 use Rattle.lola_app.specs.Valuations.{AreWithin}
 use Rattle.lola_app.specs.Vectors.{bit_names}
-use Rattle.lola_app.proofs.Orders.{either}
-use Rattle.lola_app.proofs.Places.{at_is_in}
-
-pub length_map : {X Y : Type 0} (f : X → Y) (xs : List X) → length (map f xs) ≡ length xs
-length_map f [] = refl
-length_map f (x ∷ xs) = ap suc (length_map f xs)
 
 -- bits of two parts
 pub front_bits : (xs ys : List ℕ) (bits : List Bool) → AreBits (xs ++ ys) bits → AreBits xs (take (length xs) bits)
@@ -50,7 +45,7 @@ bit_low false = omega arith
 -- the bits among the numbers of vectors are those of the vectors of one bit
 pub seen_are : (v : Values) (vs : List Vector) → AreWithin (vector_widths vs) (values_of v (vector_names vs)) → AreBits (values_of v (bit_names vs)) (seen (vector_widths vs) (values_of v (vector_names vs)))
 seen_are v [] within = refl
-seen_are v (x ∷ xs) within = elim (either (nat_eq x.width 1)) [
+seen_are v (x ∷ xs) within = elim (cases_Bool (nat_eq x.width 1)) [
   | inl e ↦
       let one : x.width ≡ 1 = equal_is x.width 1 e in
       let below : v (string_bytes x.name ∷ []) 0 < 2 ^ 1 = subst (λ (k : ℕ). v (string_bytes x.name ∷ []) 0 < 2 ^ k) one within.0 in
@@ -62,7 +57,7 @@ pub seen_append : (ws vs ns ms : List ℕ) → length ns ≡ length ws → seen 
 seen_append [] vs [] ms long = refl
 seen_append [] vs (n ∷ ns) ms long = absurd (omega arith)
 seen_append (w ∷ ws) vs [] ms long = absurd (omega arith)
-seen_append (w ∷ ws) vs (n ∷ ns) ms long = elim (either (nat_eq w 1)) [
+seen_append (w ∷ ws) vs (n ∷ ns) ms long = elim (cases_Bool (nat_eq w 1)) [
   | inl e ↦ rw e (ap (λ (bs : List Bool). nat_eq n 1 ∷ bs) (seen_append ws vs ns ms (omega arith)))
   | inr e ↦ rw e (seen_append ws vs ns ms (omega arith))
 ]
@@ -141,12 +136,12 @@ put_in v (name ∷ names) others one zero value ns distinct at is free =
     let rest : values_of v names ++ others ≡ ns = ap (λ xs. values_of v xs ++ others) (sym left) ∙ free in
     ap₂ (λ (x : ℕ) (xs : List ℕ). x ∷ xs) (ap (λ x. v (x ∷ []) 0) same ∙ is) rest
 put_in v (name ∷ names) others one (suc place) value [] distinct at is free =
-    let other : bytes_eq name one ≡ false = other_name name one (λ e. distinct.0 (subst (λ x. IsIn x names) (sym e) (at_is_in names place one at))) in
+    let other : bytes_eq name one ≡ false = other_name name one (λ e. distinct.0 (subst (λ x. IsIn x names) (sym e) (get_in names place one at))) in
     let left : without one (name ∷ names) ≡ name ∷ without one names = rw other refl in
     let f : v (name ∷ []) 0 ∷ (values_of v (without one names) ++ others) ≡ [] = ap (λ xs. values_of v xs ++ others) (sym left) ∙ free in
     cc
 put_in v (name ∷ names) others one (suc place) value (n ∷ ns) distinct at is free =
-    let other : bytes_eq name one ≡ false = other_name name one (λ e. distinct.0 (subst (λ x. IsIn x names) (sym e) (at_is_in names place one at))) in
+    let other : bytes_eq name one ≡ false = other_name name one (λ e. distinct.0 (subst (λ x. IsIn x names) (sym e) (get_in names place one at))) in
     let left : without one (name ∷ names) ≡ name ∷ without one names = rw other refl in
     let f : v (name ∷ []) 0 ∷ (values_of v (without one names) ++ others) ≡ n ∷ ns = ap (λ xs. values_of v xs ++ others) (sym left) ∙ free in
     let head : v (name ∷ []) 0 ≡ n = cc in
@@ -167,7 +162,7 @@ take_out v (name ∷ names) others one zero value ns distinct at within all =
     (ap (λ x. v (x ∷ []) 0) (sym same) ∙ head, ap (λ xs. values_of v xs ++ others) left ∙ tail)
 take_out v (name ∷ names) others one (suc place) value [] distinct at within all = absurd (omega arith)
 take_out v (name ∷ names) others one (suc place) value (n ∷ ns) distinct at within all =
-    let other : bytes_eq name one ≡ false = other_name name one (λ e. distinct.0 (subst (λ x. IsIn x names) (sym e) (at_is_in names place one at))) in
+    let other : bytes_eq name one ≡ false = other_name name one (λ e. distinct.0 (subst (λ x. IsIn x names) (sym e) (get_in names place one at))) in
     let left : without one (name ∷ names) ≡ name ∷ without one names = rw other refl in
     let f : v (name ∷ []) 0 ∷ (values_of v names ++ others) ≡ n ∷ with_reset place value ns = all in
     let head : v (name ∷ []) 0 ≡ n = cc in
@@ -206,7 +201,7 @@ without_at (name ∷ names) zero one distinct at =
     let first : 0 + 1 ≡ 1 = omega arith in
     rw front (without_absent one names absent) ∙ ap (λ (n : ℕ). drop n (name ∷ names)) (sym first)
 without_at (name ∷ names) (suc place) one distinct at =
-    let other : bytes_eq name one ≡ false = other_name name one (λ e. distinct.0 (subst (λ x. IsIn x names) (sym e) (at_is_in names place one at))) in
+    let other : bytes_eq name one ≡ false = other_name name one (λ e. distinct.0 (subst (λ x. IsIn x names) (sym e) (get_in names place one at))) in
     let next : suc place + 1 ≡ suc (place + 1) = omega arith in
     rw other (ap (λ (ns : List (List ℕ)). name ∷ ns) (without_at names place one distinct.1 at))
     ∙ ap (λ (n : ℕ). take (suc place) (name ∷ names) ++ drop n (name ∷ names)) (sym next)

@@ -2,6 +2,7 @@
 use Rattle.std.proofs.Common.{◌≡◌, ℕ, ◌+◌, ◌<◌, ◌≤◌, List, [], ◌∷◌, ◌++◌, length, refl, sym, ap, ap₂, ◌∙◌, subst, arith, inl, inr, ◌⊎◌, length-append}
 use Rattle.std.specs.List.{AllByRecursion}
 use Rattle.std.proofs.lemmas.Bool.{cases_lt}
+use Rattle.std.proofs.lemmas.List.{length-map}
 use Rattle.lola_tree.specs.Tree.{SourceTree}
 use Rattle.lola_tree.specs.Signals.{values_of, root_registers}
 use Rattle.lola_parse.specs.declared.symbol.Language.TheVariants.{Table}
@@ -17,7 +18,6 @@ use Rattle.lola_app.specs.Obligations.{Obligation, cover, reset, ends, obligatio
 use Rattle.lola_app.specs.Refused.{IsUngrammatical, refusal_stage}
 use Rattle.lola_app.specs.Stages.{Stage, words, reading, scanning, grammar, sizes, forms, table, limits, verdict, IsReached}
 use Rattle.lola_app.specs.Values.{Line, lines_of}
-use Rattle.lola_app.proofs.Leaves.{length_map}
 use Rattle.lola_app.proofs.OneRefusal.{OneReadingLaw, OneTreeLaw, BuiltLaw, one_source, RefusedAt, refused_at, no_tokens, no_source, no_sizes, no_form, one_refusal}
 use Rattle.lola_app.proofs.Readings.{table_of}
 use Rattle.lola_app.proofs.Stages.{reached_first, reached_next, one_of_all}
@@ -96,7 +96,7 @@ compared (x ∷ xs) (y ∷ ys) long = heads (cases_lt x y) (cases_lt y x) (compa
 parts_long : (S : SourceTree) (T : TableTree) (w : Valuation) → length (values_of w.input (free_inputs S T) ++ values_of w.state (root_registers S.modules)) ≡ length (free_inputs S T ++ root_registers S.modules)
 parts_long S T w =
     length-append (values_of w.input (free_inputs S T)) (values_of w.state (root_registers S.modules))
-    ∙ ap₂ (λ m n. m + n) (length_map (λ (name : List ℕ). w.input (name ∷ []) 0) (free_inputs S T)) (length_map (λ (name : List ℕ). w.state (name ∷ []) 0) (root_registers S.modules))
+    ∙ ap₂ (λ m n. m + n) (length-map (free_inputs S T) (λ (name : List ℕ). w.input (name ∷ []) 0)) (length-map (root_registers S.modules) (λ (name : List ℕ). w.state (name ∷ []) 0))
     ∙ sym (length-append (free_inputs S T) (root_registers S.modules))
 
 values_long : (S : SourceTree) (T : TableTree) (o : Obligation) (w u : Valuation) → length (free_values S T o w) ≡ length (free_values S T o u)

@@ -2,12 +2,9 @@
 use Rattle.std.proofs.Common.{◌≡◌, ℕ, suc, ◌+◌, ◌*◌, ◌/◌, ◌%◌, ◌<◌, ◌≤◌, ◌^◌, Bool, true, false, List, [], ◌∷◌, refl, sym, ap, ap₂, ◌∙◌, subst, arith, ◌⊎◌, inl, inr}
 use Rattle.std.proofs.lemmas.Nat.{pow_below, pow_pos, pow-add, shr_high, mod_low, shr_below, mod_below, mul-le, mul-add-lt, div-add-mod'}
 use Rattle.std.proofs.Math.Nat.{suc-mul}
+use Rattle.std.proofs.lemmas.Bool.{cases_Bool}
 use Rattle.lola_app.specs.Obligations.{total, ComesBefore}
 use Rattle.lola_app.specs.Valuations.{AreWithin, numbers_of, Always, IsLeast}
-
-pub either : (v : Bool) → (v ≡ true) ⊎ (v ≡ false)
-either true = inl refl
-either false = inr refl
 
 -- the code's shift of 1
 pub shl_one : (k : ℕ) → k ≤ 16 → 1 * 2 ^ k % 4294967296 ≡ 2 ^ k

@@ -3,23 +3,16 @@ use Rattle.std.proofs.Common.{◌≡◌, ◌≢◌, ℕ, zero, suc, ◌+◌, ◌
 use Rattle.std.specs.Prelude.{bytes_eq}
 use Rattle.std.proofs.lemmas.Option.{slice_get_read, slice_get-map}
 use Rattle.std.specs.Option.{option_map}
-use Rattle.lola_bits.specs.Lists.{IsIn}
+use Rattle.lola_bits.specs.Lists.{IsIn, IsAt}
 use Rattle.lola_bits.proofs.Names.{same_name}
-use Rattle.lola_bits.proofs.Places.{drop_item}
+use Rattle.lola_bits.proofs.Places.{drop_item, get_in}
 use Rattle.small_tree.specs.Table.{TableTree}
 use Rattle.lola_app.specs.declared.roles.Roles.{Roles}
-use Rattle.lola_app.specs.Naming.{IsAt}
 use Rattle.lola_app.specs.Shown.{AreRoles, IsLoadedAt}
-
-pub not_none : {X : Type 0} (x : X) → None ≡ Some x → ⊥
-not_none x e = cc
 
 pub at_place : {X : Type 0} (f : X → List ℕ) (xs : List X) (i : ℕ) (x : X) (name : List ℕ) → i < length xs → x ≡ get_or xs i x → f x ≡ name → IsAt (map f xs) i name
 at_place f xs i x name within is named =
     slice_get-map f xs i ∙ ap (option_map f) (slice_get_read xs (length xs) i x refl within is) ∙ ap (λ (n : List ℕ). Some n) named
-
-pub differs : (x y : List ℕ) → false ≡ bytes_eq x y → x ≢ y
-differs x y off same = let f : false ≡ true = off ∙ same_name x y same in cc
 
 pub not_here : {X : Type 0} (f : X → List ℕ) (xs : List X) (i : ℕ) (x : X) (name : List ℕ) → i < length xs → x ≡ get_or xs i x → f x ≢ name → IsIn name (map f (drop i xs)) → IsIn name (map f (drop (i + 1) xs))
 not_here f xs i x name within is other there = behind (subst (λ ys. IsIn name (map f ys)) (drop_item xs i x within is) there)
@@ -28,21 +21,15 @@ not_here f xs i x name within is other there = behind (subst (λ ys. IsIn name (
     behind (inl same) = absurd (other (sym same))
     behind (inr later) = later
 
--- a name at a place is among the names
-pub at_is_in : (names : List (List ℕ)) (place : ℕ) (name : List ℕ) → IsAt names place name → IsIn name names
-at_is_in [] place name e = absurd (let f : None ≡ Some name = e in cc)
-at_is_in (x ∷ xs) zero name e = inl (let f : Some x ≡ Some name = e in cc)
-at_is_in (x ∷ xs) (suc place) name e = inr (at_is_in xs place name e)
-
 -- the roles with LOADED, and without it
 pub both_roles : (inputs : List (List ℕ)) (T : TableTree) (roles : Roles) (leaf : ℕ) (port : List ℕ) → T.loaded ≡ Some port → roles.loaded ≡ Some leaf → IsAt inputs roles.reset T.reset.port →
     IsAt inputs leaf port → port ≢ T.reset.port → AreRoles inputs T roles
 both_roles inputs T roles leaf port is known at there apart = record {
   small = record {
-    reset = at_is_in inputs roles.reset T.reset.port at;
+    reset = get_in inputs roles.reset T.reset.port at;
     loaded = λ other e.
         let same : port ≡ other = let f : Some port ≡ Some other = sym is ∙ e in cc in
-        subst (λ p. IsIn p inputs × (p ≢ T.reset.port)) same (at_is_in inputs leaf port there, apart);
+        subst (λ p. IsIn p inputs × (p ≢ T.reset.port)) same (get_in inputs leaf port there, apart);
   };
   reset = at;
   loaded = subst (λ l. IsLoadedAt inputs T.loaded l) (sym known) (subst (λ p. IsLoadedAt inputs p (Some leaf)) (sym is) there);
@@ -51,7 +38,7 @@ both_roles inputs T roles leaf port is known at there apart = record {
 pub one_role : (inputs : List (List ℕ)) (T : TableTree) (roles : Roles) → T.loaded ≡ None → roles.loaded ≡ None → IsAt inputs roles.reset T.reset.port → AreRoles inputs T roles
 one_role inputs T roles is known at = record {
   small = record {
-    reset = at_is_in inputs roles.reset T.reset.port at;
+    reset = get_in inputs roles.reset T.reset.port at;
     loaded = λ other e. absurd (let f : None ≡ Some other = sym is ∙ e in cc);
   };
   reset = at;

@@ -1,8 +1,11 @@
 -- What the names of scopes mean over the leaves of a design.
 use Rattle.std.proofs.Common.{◌≡◌, ℕ, zero, suc, ◌+◌, Bool, true, false, List, [], ◌∷◌, ◌++◌, length, map, Some, None, refl, sym, ap, ap₂, ◌∙◌, arith, inl, inr}
 use Rattle.std.specs.Prelude.{bytes_eq, string_bytes, if◌then◌else◌, Option, slice_index_or}
-use Rattle.lola_bits.specs.Lists.{IsIn}
+use Rattle.std.proofs.lemmas.Bool.{cases_Bool}
+use Rattle.lola_bits.specs.Lists.{IsIn, AreEach, IsAt}
 use Rattle.lola_bits.proofs.Names.{same_name, is_same_name}
+use Rattle.lola_bits.proofs.Places.{get_in}
+use Rattle.lola_bits.proofs.Options.{nothing}
 use Rattle.lola_tree.specs.declared.named.Ref.{Ref}
 use Rattle.lola_tree.specs.Tree.{Tree, number, whole, bit, slice, index, concat, negation, binary, choice}
 use Rattle.lola_tree.specs.Value.{Path, Values}
@@ -19,14 +22,11 @@ use Rattle.lola_elab.specs.Small.{IsSmallExpr}
 use Rattle.small_tree.specs.Table.{StateTree}
 use Rattle.small_tree.specs.Step.{source_names, state_value, table_value}
 use Rattle.lola_app.specs.declared.states.Shown.{Shown}
-use Rattle.lola_app.specs.Claiming.{AreEach, AreLeaves}
-use Rattle.lola_app.specs.Naming.{IsAt}
+use Rattle.lola_app.specs.Claiming.{AreLeaves}
 use Rattle.lola_app.specs.Scoping.{HasRegisters, Entered, state_entries}
 use Rattle.lola_app.specs.Shown.{IsSourceName, IsShown}
 use Rattle.lola_app.specs.Starts.{leaf_under}
 use Rattle.lola_app.specs.Small.{Interface, IsSourceRegister}
-use Rattle.lola_app.proofs.Orders.{either}
-use Rattle.lola_app.proofs.Places.{not_none, at_is_in}
 
 -- an expression over some names is one over more names
 pub small_map : (P Q : Ref → Type 0) → ((r : Ref) → P r → Q r) → (e : Tree) → IsSmallExpr P e → IsSmallExpr Q e
@@ -42,9 +42,9 @@ small_map P Q f (concat parts at) is = absurd is
 
 -- nothing stands in an empty list
 pub no_path : (entries : List Entry) (path : Path) (r : Reading) → entries ≡ [] → find_path entries path ≡ Some r → ⊥
-no_path entries [] r none some = not_none r some
-no_path entries (name ∷ []) r none some = not_none r (sym (ap (λ (es : List Entry). find es name) none) ∙ some)
-no_path entries (name ∷ other ∷ more) r none some = not_none r some
+no_path entries [] r none some = nothing r some
+no_path entries (name ∷ []) r none some = nothing r (sym (ap (λ (es : List Entry). find es name) none) ∙ some)
+no_path entries (name ∷ other ∷ more) r none some = nothing r some
 
 -- the reading of a bare name, and of one behind an `@`
 pub bare_reading : (scope : Scope) (r : Ref) → r.source ≡ false → reading_of scope r ≡ find_path scope.bare.items r.path
@@ -54,7 +54,7 @@ pub source_reading : (scope : Scope) (r : Ref) → r.source ≡ true → reading
 source_reading scope r source = rw source refl
 
 pub no_reading : (scope : Scope) (r : Ref) → scope.bare.items ≡ [] → scope.source.items ≡ [] → HasReading scope r → ⊥
-no_reading scope r bare source has = elim (either r.source) [
+no_reading scope r bare source has = elim (cases_Bool r.source) [
   | inl e ↦ no_path scope.source.items r.path has.0 source (sym (source_reading scope r e) ∙ has.1)
   | inr e ↦ no_path scope.bare.items r.path has.0 bare (sym (bare_reading scope r e) ∙ has.1)
 ]
@@ -65,7 +65,7 @@ no_reads scope names leaves bare source r one is = absurd (no_reading scope r ba
 -- the values of names at places
 pub place_value : (v : Values) (names : List (List ℕ)) (place : ℕ) (name : List ℕ) (bits : List Bool) → AreBits (values_of v names) bits → IsAt names place name →
     v (name ∷ []) 0 ≡ bit_number (slice_index_or bits place false)
-place_value v [] place name bits are at = absurd (not_none name at)
+place_value v [] place name bits are at = nothing name at
 place_value v (x ∷ xs) place name [] are at = cc
 place_value v (x ∷ xs) zero name (b ∷ bits) are at =
     let same : x ≡ name = let f : Some x ≡ Some name = at in cc in
@@ -82,7 +82,7 @@ input_value face s inp leaves place name are at = front inp face.inputs (values_
   where
     front : (v : Values) (names : List (List ℕ)) (others : List ℕ) (place : ℕ) (name : List ℕ) (bits : List Bool) → AreBits (values_of v names ++ others) bits → IsAt names place name →
         v (name ∷ []) 0 ≡ bit_number (slice_index_or bits place false)
-    front v [] others place name bits are at = absurd (not_none name at)
+    front v [] others place name bits are at = nothing name at
     front v (x ∷ xs) others place name [] are at = cc
     front v (x ∷ xs) others zero name (b ∷ bits) are at =
         let same : x ≡ name = let f : Some x ≡ Some name = at in cc in
@@ -113,9 +113,9 @@ register_value face s inp leaves place name are at = back inp face.inputs place 
 -- registers, numbered from a leaf on
 leaf_found : (entries : List Entry) (n : ℕ) (names : List (List ℕ)) (name : List ℕ) (one : Reading) → entered entries ≡ leaves_from n names → find entries name ≡ Some one →
     (place : ℕ) × IsAt names place name × (one ≡ reading.Leaf (n + place))
-leaf_found [] n names name one are some = absurd (not_none one some)
+leaf_found [] n names name one are some = nothing one some
 leaf_found (e ∷ entries) n [] name one are some = cc
-leaf_found (e ∷ entries) n (x ∷ names) name one are some = elim (either (bytes_eq (string_bytes e.name) name)) [
+leaf_found (e ∷ entries) n (x ∷ names) name one are some = elim (cases_Bool (bytes_eq (string_bytes e.name) name)) [
   | inl same ↦
       let here : string_bytes e.name ≡ name = is_same_name (string_bytes e.name) name same in
       let pair : ◌≡◌ {A = Entered} (string_bytes e.name, e.reading) (x, reading.Leaf n) = cc in
@@ -146,7 +146,7 @@ leaf_there : (entries : List Entry) (n : ℕ) (names : List (List ℕ)) (name : 
 leaf_there [] n [] name are among = absurd among
 leaf_there [] n (x ∷ names) name are among = cc
 leaf_there (e ∷ entries) n [] name are among = absurd among
-leaf_there (e ∷ entries) n (x ∷ names) name are among = elim (either (bytes_eq (string_bytes e.name) name)) [
+leaf_there (e ∷ entries) n (x ∷ names) name are among = elim (cases_Bool (bytes_eq (string_bytes e.name) name)) [
   | inl same ↦ (e.reading, rw same refl)
   | inr other ↦
       let pair : ◌≡◌ {A = Entered} (string_bytes e.name, e.reading) (x, reading.Leaf n) = cc in
@@ -172,32 +172,32 @@ pub record IsScope (face : Interface) (Names : Ref → Type 0) (names : Values �
 -- the scope of the registers
 pub registers_scope : (face : Interface) (scope : Scope) → HasRegisters (length face.inputs) face.registers scope → IsScope face (IsSourceRegister face.registers) (λ s inp. source_names s) scope
 registers_scope face scope has = record {
-  reads = λ s inp leaves are r one is. elim (either r.source) [
+  reads = λ s inp leaves are r one is. elim (cases_Bool r.source) [
     | inl e ↦ rw e (reads s inp leaves are r.path one (sym (source_reading scope r e) ∙ is))
     | inr e ↦ absurd (no_path scope.bare.items r.path one has.bare (sym (bare_reading scope r e) ∙ is))
   ];
   has = λ r is.
       let there = leaf_there scope.source.items (length face.inputs) face.registers is.1.0 has.source is.1.2 in
       (there.0, source_reading scope r is.0 ∙ ap (find_path scope.source.items) is.1.1 ∙ there.1);
-  only = λ r is. elim (either r.source) [
+  only = λ r is. elim (cases_Bool r.source) [
     | inl e ↦ (e, found r.path is.0 (sym (source_reading scope r e) ∙ is.1))
     | inr e ↦ absurd (no_path scope.bare.items r.path is.0 has.bare (sym (bare_reading scope r e) ∙ is.1))
   ];
 }
   where
     found : (path : Path) (one : Reading) → find_path scope.source.items path ≡ Some one → (name : List ℕ) × (path ≡ name ∷ []) × IsIn name face.registers
-    found [] one some = absurd (not_none one some)
+    found [] one some = nothing one some
     found (name ∷ []) one some =
         let f = leaf_found scope.source.items (length face.inputs) face.registers name one has.source some in
-        (name, refl, at_is_in face.registers f.0 name f.1)
-    found (name ∷ other ∷ more) one some = absurd (not_none one some)
+        (name, refl, get_in face.registers f.0 name f.1)
+    found (name ∷ other ∷ more) one some = nothing one some
 
     reads : (s inp : Values) (leaves : List Bool) → AreLeaves face s inp leaves → (path : Path) (one : Reading) → find_path scope.source.items path ≡ Some one → s path 0 ≡ reading_number one leaves
-    reads s inp leaves are [] one some = absurd (not_none one some)
+    reads s inp leaves are [] one some = nothing one some
     reads s inp leaves are (name ∷ []) one some =
         let f = leaf_found scope.source.items (length face.inputs) face.registers name one has.source some in
         register_value face s inp leaves f.0 name are f.1 ∙ ap (λ (r : Reading). reading_number r leaves) (sym f.2)
-    reads s inp leaves are (name ∷ other ∷ more) one some = absurd (not_none one some)
+    reads s inp leaves are (name ∷ other ∷ more) one some = nothing one some
 
 -- the value of a state's row is that of its leaf
 shown_name : (e : Tree) (name : List ℕ) (s : Values) → IsSourceName e name → table_value e (source_names s) ≡ s (name ∷ []) 0
@@ -224,10 +224,10 @@ pub record IsEntered (face : Interface) (rows : List StateTree) (states : List S
 
 pub entered_under : (face : Interface) (rows : List StateTree) (states : List Shown) (name : List ℕ) (leaf : ℕ) → AreEach (IsShown face) rows states → leaf_under states name ≡ Some leaf →
     IsEntered face rows states name leaf
-entered_under face [] [] name leaf each under = absurd (not_none leaf under)
+entered_under face [] [] name leaf each under = nothing leaf under
 entered_under face [] (x ∷ states) name leaf each under = absurd each
 entered_under face (row ∷ rows) [] name leaf each under = absurd each
-entered_under face (row ∷ rows) (x ∷ states) name leaf each under = elim (either (bytes_eq (string_bytes x.name) name)) [
+entered_under face (row ∷ rows) (x ∷ states) name leaf each under = elim (cases_Bool (bytes_eq (string_bytes x.name) name)) [
   | inl same ↦
       let here : string_bytes x.name ≡ name = is_same_name (string_bytes x.name) name same in
       let f : Some x.leaf ≡ Some leaf = sym (taken same) ∙ under in
@@ -275,7 +275,7 @@ leaf_reading (Some leaf) = Some (reading.Leaf leaf)
 
 pub first_state : (states : List Shown) (name : List ℕ) → first_entry (state_entries states) name ≡ leaf_reading (leaf_under states name)
 first_state [] name = refl
-first_state (x ∷ states) name = elim (either (bytes_eq (string_bytes x.name) name)) [
+first_state (x ∷ states) name = elim (cases_Bool (bytes_eq (string_bytes x.name) name)) [
   | inl same ↦ rw same refl
   | inr other ↦ rw other (first_state states name)
 ]

@@ -1,7 +1,9 @@
 -- Rows that set states, and the states that they name.
 use Rattle.std.proofs.Common.{◌≡◌, ℕ, ◌<◌, Bool, true, false, List, [], ◌∷◌, length, map, drop, get_or, Some, None, refl, sym, ap, ◌∙◌, inl, inr}
 use Rattle.std.specs.Prelude.{bytes_eq, string_bytes, if◌then◌else◌, Option}
-use Rattle.lola_bits.specs.Lists.{IsIn}
+use Rattle.std.specs.List.{AllByRecursion}
+use Rattle.std.proofs.lemmas.Bool.{cases_Bool}
+use Rattle.lola_bits.specs.Lists.{IsIn, AreEach}
 use Rattle.lola_bits.proofs.Names.{same_name, is_same_name}
 use Rattle.lola_bits.proofs.Places.{drop_item}
 use Rattle.lola_tree.specs.declared.named.Ref.{Ref}
@@ -9,14 +11,11 @@ use Rattle.lola_tree.specs.Tree.{tree}
 use Rattle.small_tree.specs.declared.table.SetRow.{SetRow}
 use Rattle.small_tree.specs.Table.{set_tree}
 use Rattle.small_tree.specs.Step.{set_value, table_value}
-use Rattle.lola_app.specs.declared.states.Shown.{Shown}
-use Rattle.std.specs.List.{AllByRecursion}
 use Rattle.small_tree.specs.Table.{SetTree}
+use Rattle.lola_app.specs.declared.states.Shown.{Shown}
 use Rattle.lola_app.specs.declared.claim.Start.{Start}
-use Rattle.lola_app.specs.Claiming.{AreEach}
 use Rattle.lola_app.specs.Small.{IsSmallRow, IsNoName}
 use Rattle.lola_app.specs.Starts.{leaf_under, IsStartRow}
-use Rattle.lola_app.proofs.Orders.{either}
 
 -- the row at an index sets the state, and those before it don't count
 pub at_row : (rows : List SetRow) (i : ℕ) (row : SetRow) (name : List ℕ) (old : ℕ) (names : Ref → ℕ) → i < length rows → row ≡ get_or rows i row → bytes_eq row.name name ≡ true →
@@ -32,7 +31,7 @@ taken_off b l off = rw off refl
 -- a leaf stands under the names of states alone
 pub none_under : (states : List Shown) (name : List ℕ) → leaf_under states name ≡ None → IsIn name (map (λ (s : Shown). string_bytes s.name) states) → ⊥
 none_under [] name none among = among
-none_under (s ∷ states) name none among = elim (either (bytes_eq (string_bytes s.name) name)) [
+none_under (s ∷ states) name none among = elim (cases_Bool (bytes_eq (string_bytes s.name) name)) [
   | inl e ↦ let f : Some s.leaf ≡ None = sym (here e) ∙ none in absurd cc
   | inr e ↦ none_under states name (sym (there e) ∙ none) (later e among)
 ]
@@ -49,7 +48,7 @@ none_under (s ∷ states) name none among = elim (either (bytes_eq (string_bytes
 
 pub some_under : (states : List Shown) (name : List ℕ) (leaf : ℕ) → leaf_under states name ≡ Some leaf → IsIn name (map (λ (s : Shown). string_bytes s.name) states)
 some_under [] name leaf some = absurd (let f : None ≡ Some leaf = some in cc)
-some_under (s ∷ states) name leaf some = elim (either (bytes_eq (string_bytes s.name) name)) [
+some_under (s ∷ states) name leaf some = elim (cases_Bool (bytes_eq (string_bytes s.name) name)) [
   | inl e ↦ inl (sym (is_same_name (string_bytes s.name) name e))
   | inr e ↦ inr (some_under states name leaf (sym (there e) ∙ some))
 ]

@@ -2,16 +2,14 @@
 use Rattle.std.proofs.Common.{◌≡◌, ℕ, ◌+◌, ◌<◌, List, [], ◌∷◌, ◌++◌, length, map, take, get_or, sym, subst, arith}
 use Rattle.std.specs.List.{AllByRecursion}
 use Rattle.std.proofs.lemmas.Option.{slice_get_within}
-use Rattle.lola_bits.specs.Lists.{IsIn}
+use Rattle.std.proofs.lemmas.List.{length-map}
+use Rattle.lola_bits.specs.Lists.{IsIn, AreEach, IsAt}
+use Rattle.lola_bits.proofs.Places.{map_item, take_item}
 use Rattle.lola_tree.specs.Tree.{Tree, number, whole, bit, slice, index, concat, negation, binary, choice}
 use Rattle.small_tree.specs.Table.{StateTree}
 use Rattle.lola_app.specs.declared.states.Shown.{Shown}
-use Rattle.lola_app.specs.Claiming.{AreEach}
-use Rattle.lola_app.specs.Naming.{IsAt}
 use Rattle.lola_app.specs.Shown.{IsSourceName, IsShown}
 use Rattle.lola_app.specs.Small.{Interface, ShowsRegister, IsSmallState}
-use Rattle.lola_app.proofs.Leaves.{length_map}
-use Rattle.lola_app.proofs.ByRow.{map_item, take_item}
 
 pub shows_register : (e : Tree) (name : List ℕ) (registers : List (List ℕ)) → IsSourceName e name → IsIn name registers → ShowsRegister registers e
 shows_register (whole of) name registers is among = (is.0, (name, is.1, among))
@@ -26,7 +24,7 @@ shows_register (concat parts at) name registers is among = absurd is
 
 -- a place is within the list
 pub place_within : {X : Type 0} (f : X → List ℕ) (xs : List X) (place : ℕ) (name : List ℕ) → IsAt (map f xs) place name → place < length xs
-place_within f xs place name at = let h = slice_get_within (map f xs) place name at in let e = length_map f xs in omega arith
+place_within f xs place name at = let h = slice_get_within (map f xs) place name at in let e = length-map xs f in omega arith
 
 -- one more of two lists side by side
 pub each_more : {X Y : Type 0} (P : X → Y → Type 0) (xs : List X) (ys : List Y) (x : X) (y : Y) → AreEach P xs ys → P x y → AreEach P (xs ++ x ∷ []) (ys ++ y ∷ [])

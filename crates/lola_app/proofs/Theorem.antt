@@ -4,6 +4,7 @@ use Rattle.std.specs.Prelude.{flat_map}
 use Rattle.std.specs.List.{AllByRecursion}
 use Rattle.std.proofs.lemmas.List.{length-take-le}
 use Rattle.lola_bits.specs.Lists.{IsIn}
+use Rattle.lola_bits.proofs.All.{all_front, all_back, all_mapped, all_flat}
 use Rattle.lola_tree.specs.declared.named.Ref.{Ref}
 use Rattle.lola_tree.specs.Tree.{SourceTree}
 use Rattle.lola_tree.specs.Value.{Values}
@@ -14,24 +15,6 @@ use Rattle.small_tree.specs.Step.{Arch, Answer, IsClass, fits, source_names, no_
 use Rattle.lola_app.specs.Accepts.{Fits}
 use Rattle.lola_app.specs.Headline.{shown, shown_word, Shows, IsIdle, is_unstalled, unstalled, answer_of, answers_of, Sees, Starts, Commutes, Resets}
 use Rattle.lola_app.specs.Obligations.{start, state, reset, ends, class_obligations, Valuation, Premises, HoldsAlways, AllHold}
-
--- the parts of a list where all have a property
-all_left : {X : Type 0} (P : X → Type 0) (xs ys : List X) → AllByRecursion P (xs ++ ys) → AllByRecursion P xs
-all_left P [] ys all = tt
-all_left P (x ∷ xs) ys all = (all.0, all_left P xs ys all.1)
-
-all_right : {X : Type 0} (P : X → Type 0) (xs ys : List X) → AllByRecursion P (xs ++ ys) → AllByRecursion P ys
-all_right P [] ys all = all
-all_right P (x ∷ xs) ys all = all_right P xs ys all.1
-
-all_mapped : {X Y : Type 0} (P : Y → Type 0) (f : X → Y) (xs : List X) → AllByRecursion P (map f xs) → AllByRecursion (λ x. P (f x)) xs
-all_mapped P f [] all = tt
-all_mapped P f (x ∷ xs) all = (all.0, all_mapped P f xs all.1)
-
-all_flat : {X Y : Type 0} (P : Y → Type 0) (f : X → List Y) (x : X) (xs : List X) → AllByRecursion P (flat_map f xs) → IsIn x xs → AllByRecursion P (f x)
-all_flat P f x [] all among = absurd among
-all_flat P f x (y ∷ ys) all (inl same) = subst (λ z. AllByRecursion P (f z)) (sym same) (all_left P (f y) (flat_map f ys) all)
-all_flat P f x (y ∷ ys) all (inr later) = all_flat P f x ys (all_right P (f y) (flat_map f ys) all) later
 
 -- without STALL the unstalled inputs are all
 all_unstalled : (T : TableTree) (inputs : List Values) → filter (is_unstalled T) inputs ≡ inputs
@@ -82,11 +65,11 @@ shown_next sets (row ∷ rows) s s' names all = ap₂ (λ (a : ℕ) (as' : List 
 module _ (S : SourceTree) (T : TableTree) (all : AllHold S T) where
   of_reset : AllByRecursion (λ (row : SetTree). HoldsAlways S T (reset (start row))) T.starts
   of_reset = all_mapped (HoldsAlways S T) (λ (row : SetTree). reset (start row)) T.starts
-      (all_left (HoldsAlways S T) (map (λ (row : SetTree). reset (start row)) T.starts) (flat_map (class_obligations T) T.classes) all.each.1.1.1)
+      (all_front (HoldsAlways S T) (map (λ (row : SetTree). reset (start row)) T.starts) (flat_map (class_obligations T) T.classes) all.each.1.1.1)
 
   of_class : (c : ClassTree) → IsIn c T.classes → AllByRecursion (HoldsAlways S T) (class_obligations T c)
   of_class c among = all_flat (HoldsAlways S T) (class_obligations T) c T.classes
-      (all_right (HoldsAlways S T) (map (λ (row : SetTree). reset (start row)) T.starts) (flat_map (class_obligations T) T.classes) all.each.1.1.1) among
+      (all_back (HoldsAlways S T) (map (λ (row : SetTree). reset (start row)) T.starts) (flat_map (class_obligations T) T.classes) all.each.1.1.1) among
 
 -- a property of each item from one that is stronger
 weaker : {X : Type 0} (P Q : X → Type 0) → ((x : X) → P x → Q x) → (xs : List X) → AllByRecursion P xs → AllByRecursion Q xs

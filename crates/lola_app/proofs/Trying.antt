@@ -4,6 +4,7 @@ use Rattle.std.specs.Prelude.{nat_eq, min, slice_index_or}
 use Rattle.std.proofs.lemmas.List.{length-take, get_or-append_right}
 use Rattle.std.proofs.Math.Nat.{div-div-eq-div-mul}
 use Rattle.std.proofs.lemmas.Nat.{pow-add}
+use Rattle.std.proofs.lemmas.Bool.{cases_Bool}
 use Rattle.lola_bits.specs.BitLists.{number_of}
 use Rattle.lola_bits.proofs.Places.{drop_item}
 use Rattle.lola_elab.specs.declared.flat.Flat.{Flat}
@@ -17,7 +18,6 @@ use Rattle.lola_app.specs.Obligations.{total}
 use Rattle.lola_app.specs.Values.{hex_digit, hex_digits}
 use Rattle.lola_app.specs.Trial.{but_one, seen, tried_widths, IsTriable}
 use Rattle.lola_app.specs.Valuations.{AreWithin}
-use Rattle.lola_app.proofs.Orders.{either}
 
 -- one hexadecimal digit less
 pub digit_step : (value rest i : ℕ) → rest ≡ value / 16 ^ i → rest / 16 ≡ value / 16 ^ (i + 1)
@@ -66,13 +66,13 @@ filled widths numbers vectors place end within long mean =
     append_none (x ∷ xs) = ap (λ (l : List ℕ). x ∷ l) (append_none xs)
 
 one_seen : (w n : ℕ) (ws ns : List ℕ) → seen (w ∷ ws) (n ∷ ns) ≡ seen (w ∷ []) (n ∷ []) ++ seen ws ns
-one_seen w n ws ns = elim (either (nat_eq w 1)) [
+one_seen w n ws ns = elim (cases_Bool (nat_eq w 1)) [
   | inl e ↦ rw e refl
   | inr e ↦ rw e refl
 ]
 
 pub not_one : (n : ℕ) → (n ≡ 1 → ⊥) → nat_eq n 1 ≡ false
-not_one n other = elim (either (nat_eq n 1)) [
+not_one n other = elim (cases_Bool (nat_eq n 1)) [
   | inl e ↦ absurd (other (equal_is n 1 e))
   | inr e ↦ e
 ]

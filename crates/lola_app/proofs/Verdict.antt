@@ -4,6 +4,7 @@ use Rattle.std.specs.Prelude.{slice_get, flat_map, codes, string_bytes, decimal}
 use Rattle.std.specs.List.{AllByRecursion}
 use Rattle.std.proofs.lemmas.Fmt.{decimal_digit}
 use Rattle.std.proofs.lemmas.List.{map-append}
+use Rattle.lola_bits.specs.Lists.{AreEach}
 use Rattle.lola_tree.specs.Tree.{SourceTree}
 use Rattle.lola_tree.specs.Signals.{root_registers}
 use Rattle.lola_elab.specs.Elaborated.{vector_names, vector_widths}
@@ -14,7 +15,7 @@ use Rattle.lola_app.specs.declared.claim.Start.{Start}
 use Rattle.lola_app.specs.declared.obligation.Obligation.{Obligation as Listed}
 use Rattle.lola_app.specs.declared.obligation.Goal.TheVariants as goal
 use Rattle.lola_app.specs.declared.subject.Subject.{Subject}
-use Rattle.lola_app.specs.Claiming.{AreEach, IsClaimedState, IsClaimedStart, IsClaimOf}
+use Rattle.lola_app.specs.Claiming.{IsClaimedState, IsClaimedStart, IsClaimOf}
 use Rattle.lola_app.specs.Deciding.{IsFew, IsFirstWide, PassesAlways, IsFirstFailing}
 use Rattle.lola_app.specs.Listing.{Named, named_of, start_obligations, state_obligations, listed}
 use Rattle.lola_app.specs.Listing.{class_obligations as listed_class}

@@ -1,6 +1,7 @@
 -- What a claim over leaves has of the table that it was made of. The leaves are the bits that a table sees
 -- of a design: its one-bit inputs but the clock, and then its one-bit registers.
 use Rattle.std.specs.Prelude.{◌≡◌, ℕ, ◌≤◌, List, [], ◌∷◌, ◌++◌, length, map, Bool, false, Some, slice_get, slice_index_or, string_bytes}
+use Rattle.lola_bits.specs.Lists.{AreEach}
 use Rattle.lola_tree.specs.Value.{Values}
 use Rattle.lola_tree.specs.Signals.{values_of}
 use Rattle.lola_elab.specs.Logic.{logic_value, bit_number, AreBits}
@@ -12,13 +13,6 @@ use Rattle.lola_app.specs.declared.claim.Start.{Start}
 use Rattle.lola_app.specs.Headline.{shown, answer_of}
 use Rattle.lola_app.specs.Small.{Interface, IsSmallTable}
 use Rattle.lola_app.specs.Vectors.{interface_in}
-
--- two lists have their items side by side
-abbrev pub AreEach : {X Y : Type 0} → (X → Y → Type 0) → List X → List Y → Type 0
-AreEach P [] [] = Unit {0}
-AreEach P [] (y ∷ ys) = ⊥
-AreEach P (x ∷ xs) [] = ⊥
-AreEach P (x ∷ xs) (y ∷ ys) = P x y × AreEach P xs ys
 
 -- the leaves have the values that a state and an input give them
 abbrev pub AreLeaves : Interface → Values → Values → List Bool → Type 0

@@ -9,7 +9,6 @@ pub mod Fitting
 pub mod Headline
 pub mod Listing
 pub mod Made
-pub mod Naming
 pub mod Obligations
 pub mod Printing
 pub mod RefusalText

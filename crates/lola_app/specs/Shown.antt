@@ -1,10 +1,10 @@
 -- The states of a table by the leaves of their registers.
 use Rattle.std.specs.Prelude.{◌≡◌, ℕ, ◌+◌, true, List, [], ◌∷◌, length, Option, Some, None, string_bytes}
+use Rattle.lola_bits.specs.Lists.{IsAt}
 use Rattle.lola_tree.specs.Tree.{Tree, number, whole, bit, slice, index, concat, negation, binary, choice}
 use Rattle.small_tree.specs.Table.{StateTree, TableTree}
 use Rattle.lola_app.specs.declared.states.Shown.{Shown}
 use Rattle.lola_app.specs.declared.roles.Roles.{Roles}
-use Rattle.lola_app.specs.Naming.{IsAt}
 use Rattle.lola_app.specs.Small.{Interface, IsSmallState, AreSmallRoles}
 
 -- an expression is `@` and this one name

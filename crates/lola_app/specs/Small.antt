@@ -1,5 +1,5 @@
 -- The small form of a table: what fits the ports and registers of one bit of a design.
-use Rattle.std.specs.Prelude.{◌≡◌, ◌≢◌, ◌⊎◌, ℕ, ◌≤◌, Bool, true, false, nat_eq, nat_le, if◌then◌else◌, ◌&&◌, List, [], ◌∷◌, length, map, filter, codes, Some, None}
+use Rattle.std.specs.Prelude.{◌≡◌, ◌≢◌, ◌⊎◌, ℕ, ◌≤◌, Bool, true, false, nat_eq, if◌then◌else◌, ◌&&◌, List, [], ◌∷◌, length, map, filter, codes, Some, None}
 use Rattle.std.specs.List.{AllByRecursion}
 use Rattle.lola_bits.specs.Lists.{IsIn, AreDistinct}
 use Rattle.lola_tree.specs.declared.named.Ref.{Ref}
@@ -8,6 +8,7 @@ use Rattle.lola_tree.specs.Names.{names_of}
 use Rattle.lola_tree.specs.Width.{entry_width}
 use Rattle.lola_tree.specs.Value.{or_zero}
 use Rattle.lola_tree.specs.Signals.{input_names, register_names}
+use Rattle.lola_scan.specs.Bytes.{is_digit}
 use Rattle.lola_elab.specs.Small.{IsBit, IsSmallExpr}
 use Rattle.small_tree.specs.Table.{StateTree, SetTree, PhaseTree, ClassTree, TableTree}
 use Rattle.small_tree.specs.Step.{loads_first}
@@ -58,10 +59,7 @@ IsOne (slice of high low at) = ⊥
 IsOne (index of place at) = ⊥
 IsOne (concat parts at) = ⊥
 
--- a byte is a decimal digit, `0` to `9`
-abbrev pub is_digit : ℕ → Bool
-is_digit b = nat_le 48 b && nat_le b 57
-
+-- decimal digits
 abbrev pub are_digits : List ℕ → Bool
 are_digits [] = true
 are_digits (b ∷ bs) = is_digit b && are_digits bs

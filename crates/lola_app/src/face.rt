@@ -1,6 +1,6 @@
 ghost use Rattle.std.specs.Prelude.{◌≡◌, ◌++◌, ◌+◌, ◌≤◌, ℕ, List, length, map, string_bytes, IfOk, OnOk, Some, slice_get};
+ghost use Rattle.lola_bits.specs.Lists.{IsAt};
 ghost use Rattle.lola_elab.specs.Elaborated.{vector_names, vector_widths};
-ghost use Rattle.lola_app.specs.Naming.{IsAt};
 ghost use Rattle.lola_app.specs.Vectors.{bit_names, face_of, interface_in};
 
 use lola_elab::{Design, Vector};

@@ -1,7 +1,6 @@
 ghost use Rattle.std.specs.Prelude.{◌≡◌, ◌↔◌, map, string_bytes, IfOk, IsTrue, MatchOption};
-ghost use Rattle.lola_bits.specs.Lists.{IsIn, AreDistinct};
+ghost use Rattle.lola_bits.specs.Lists.{IsIn, AreDistinct, IsAt};
 ghost use Rattle.small_tree.specs.Table.{state_tree, set_tree, StateTree, SetTree};
-ghost use Rattle.lola_app.specs.Naming.{IsAt};
 
 use lola_elab::add_name;
 use small_tree::{SetRow, StateRow};

@@ -1,9 +1,9 @@
 ghost use Rattle.std.specs.Prelude.{◌≡◌, ℕ, List, map, string_bytes, IfOk, OnOk};
 ghost use Rattle.std.specs.List.{AllByRecursion};
+ghost use Rattle.lola_bits.specs.Lists.{AreEach};
 ghost use Rattle.lola_elab.specs.Scope.{HasReading};
 ghost use Rattle.small_tree.specs.Table.{set_tree};
 ghost use Rattle.lola_app.specs.declared.states.Shown.{Shown as Showing};
-ghost use Rattle.lola_app.specs.Claiming.{AreEach};
 ghost use Rattle.lola_app.specs.Fitting.{IsSetBy, IsSetState};
 ghost use Rattle.lola_app.specs.Small.{IsSmallRow, AreSmallRows, IsNoName};
 ghost use Rattle.lola_app.specs.Starts.{leaf_under, IsStartRow};

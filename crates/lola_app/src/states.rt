@@ -1,11 +1,11 @@
 ghost use Rattle.std.specs.Prelude.{◌≡◌, ◌↔◌, ◌+◌, ◌≤◌, length, map, List, ℕ, [], ◌∷◌, string_bytes, IfOk, IsTrue, MatchOption};
 ghost use Rattle.std.specs.List.{AllByRecursion};
+ghost use Rattle.lola_bits.specs.Lists.{AreEach};
 ghost use Rattle.lola_tree.specs.Tree.{tree};
-ghost use Rattle.small_tree.specs.Table.{state_tree};
 ghost use Rattle.lola_elab.specs.Small.{IsBit};
-ghost use Rattle.lola_app.specs.Claiming.{AreEach};
+ghost use Rattle.small_tree.specs.Table.{state_tree};
 ghost use Rattle.lola_app.specs.Shown.{IsShown, IsSourceName};
-ghost use Rattle.lola_app.specs.Small.{is_digit, are_digits, is_taken, ShowsRegister, IsSmallState, AreSmallStates};
+ghost use Rattle.lola_app.specs.Small.{are_digits, is_taken, ShowsRegister, IsSmallState, AreSmallStates};
 ghost use Rattle.lola_app.specs.Vectors.{interface_in};
 
 use crate::face::Face;

@@ -1,6 +1,6 @@
 ghost use Rattle.std.specs.Prelude.{◌≡◌, ◌++◌, ℕ, List, map, IfOk, OnOk, Some, slice_get};
+ghost use Rattle.lola_bits.specs.Lists.{IsAt};
 ghost use Rattle.lola_elab.specs.Elaborated.{vector_names, vector_widths, leaf_widths};
-ghost use Rattle.lola_app.specs.Naming.{IsAt};
 ghost use Rattle.lola_app.specs.Vectors.{bit_names};
 
 use crate::claim::Claim;

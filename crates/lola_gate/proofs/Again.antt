@@ -4,10 +4,10 @@ use Rattle.std.specs.Prelude.{nat_eq, nat_lt}
 use Rattle.std.specs.Map.{lookup}
 use Rattle.std.proofs.lemmas.Bool.{and_from, eq-eqb, cases_Bool}
 use Rattle.std.proofs.lemmas.List.{append_assoc}
+use Rattle.lola_bits.proofs.Options.{some_same}
 use Rattle.lola_net.specs.declared.node.Node.{Node}
 use Rattle.lola_net.specs.declared.node.Node.TheVariants.{Gate}
 use Rattle.lola_gate.specs.Gates.{gate_here, gates_from, gates, is_pair, found, shared_or, shared, both_of, gates_calls}
-use Rattle.lola_gate.specs.Values.{some_same}
 use Rattle.lola_gate.specs.Repeated.{Later, Repeats}
 
 lookup_front : (test : ℕ × ℕ → Bool) (es fs : List ((ℕ × ℕ) × ℕ)) (n : ℕ) → lookup test es ≡ Some n → lookup test (es ++ fs) ≡ Some n

@@ -4,6 +4,8 @@ use Rattle.std.specs.Prelude.{nat_lt}
 use Rattle.std.proofs.lemmas.Bool.{and_parts, ltb-true, lt-ltb, le-ltb}
 use Rattle.std.proofs.Math.Seq.{drop-cons}
 use Rattle.std.proofs.Math.ListN.{get_or}
+use Rattle.std.proofs.lemmas.List.{drop_all}
+use Rattle.lola_bits.proofs.Places.{length_more}
 use Rattle.lola_net.specs.declared.node.Node.{Node}
 use Rattle.lola_net.specs.declared.node.Node.TheVariants.{Gate}
 use Rattle.lola_net.specs.Literals.{at_place, at_node, at_literal}
@@ -11,7 +13,6 @@ use Rattle.lola_net.specs.Equations.{uses_smaller, ordered_from, is_ordered}
 use Rattle.lola_gate.specs.declared.other.Other.{Other}
 use Rattle.lola_gate.specs.declared.other.Other.TheVariants as other
 use Rattle.lola_gate.specs.Gates.{next_value, values_from, values, frees_here, frees_from, frees}
-use Rattle.lola_gate.specs.Values.{length_one}
 use Rattle.lola_gate.specs.Held.{first_other, later_others, node_here, others_behind, nodes_of}
 use Rattle.lola_gate.specs.Evaluated.{Evaluated}
 
@@ -114,7 +115,7 @@ module _ (d : List Node) (held : List (ℕ × ℕ)) (free all : List Bool) (i at
   made : (b : Bool) (used : ℕ) → used ≤ length free → Steps d free (all ++ b ∷ []) (suc i) used behind → Evaluated d held free (all ++ b ∷ []) (i + 1) used
   made b used inside s =
       subst (λ j. Evaluated d held free (all ++ b ∷ []) j used) (let h : suc i ≡ i + 1 = omega arith in h)
-      (record { others = others_behind e.others p; long = length_one all b ∙ ap suc e.long; used = inside; ordered = s.0; enough = s.1; goes_on = s.2 })
+      (record { others = others_behind e.others p; long = length_more all b ∙ ap suc e.long; used = inside; ordered = s.0; enough = s.1; goes_on = s.2 })
 
   pub gate_evaluated : 1 < p.0 → Evaluated d held free (all ++ (at_literal all p.0 && at_literal all p.1) ∷ []) (i + 1) at
   gate_evaluated g =
@@ -131,14 +132,8 @@ module _ (d : List Node) (held : List (ℕ × ℕ)) (free all : List Bool) (i at
       subst (λ n. Evaluated d held free (all ++ get_or free at false ∷ []) (i + 1) n) (let h : suc at ≡ at + 1 = omega arith in h)
       (made (get_or free at false) (suc at) (omega arith) s.1)
 
-drop_all : {A : Type 0} (xs : List A) (i : ℕ) → length xs ≤ i → drop i xs ≡ []
-drop_all [] zero e = refl
-drop_all [] (suc i) e = refl
-drop_all (x ∷ xs) zero e = absurd (omega arith)
-drop_all (x ∷ xs) (suc i) e = drop_all xs i (omega arith)
-
 pub evaluated_all : (d : List Node) (held : List (ℕ × ℕ)) (free all : List Bool) (i at : ℕ) → Evaluated d held free all i at → length held ≤ i → (v : ℕ → Bool) → map v (frees d) ≡ free → all ≡ values v d
-evaluated_all d held free all i at e past v f = sym (ap (λ hs. values_from v all (nodes_of e.others hs)) (drop_all held i past)) ∙ (e.goes_on v f).0
+evaluated_all d held free all i at e past v f = sym (ap (λ hs. values_from v all (nodes_of e.others hs)) (drop_all i held past)) ∙ (e.goes_on v f).0
 
 pub evaluated_none : (d : List Node) (held : List (ℕ × ℕ)) (others : List Other) (free all : List Bool) → nodes_of others held ≡ d → is_ordered d ≡ true → length free ≡ length (frees d) → all ≡ [] →
     Evaluated d held free all 0 0

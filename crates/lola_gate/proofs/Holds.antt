@@ -4,13 +4,15 @@ use Rattle.std.specs.Prelude.{nat_lt, slice_get}
 use Rattle.std.specs.Map.{lookup}
 use Rattle.std.proofs.lemmas.List.{append-nil}
 use Rattle.std.proofs.lemmas.Bool.{cases_Bool, and_from, lt-ltb}
+use Rattle.lola_bits.proofs.Places.{length_more}
+use Rattle.lola_bits.proofs.Options.{some_same}
 use Rattle.lola_net.specs.declared.node.Node.{Node}
 use Rattle.lola_net.specs.declared.node.Node.TheVariants.{Free, Latch, Pad, Gate}
 use Rattle.lola_net.specs.Equations.{uses_smaller, is_ordered}
 use Rattle.lola_gate.specs.declared.other.Other.{Other}
 use Rattle.lola_gate.specs.declared.other.Other.TheVariants as other
 use Rattle.lola_gate.specs.Gates.{gate_here, gates_from, gates, found, shared_or, shared, knows_literal, gate_of, gate_at, frees_from, frees}
-use Rattle.lola_gate.specs.Values.{length_one, some_same, ordered_end}
+use Rattle.lola_gate.specs.Values.{ordered_end}
 use Rattle.lola_gate.specs.Law.{known_within, known_node}
 use Rattle.lola_gate.specs.Held.{node_of, first_other, later_others, node_here, others_behind, nodes_of, count_others, Tied, gate_by}
 
@@ -71,7 +73,7 @@ pub tied_gate : (held : List (ℕ × ℕ)) (others : List Other) (entries more :
 tied_gate held others entries more a b t few e ka kb is =
     let is' = nodes_gate others held a b e in
     let long : length (nodes_of others held) ≡ length held = length_nodes others held in
-    let lh = length_one held (a, b) in
+    let lh = length_more held (a, b) in
     let nodes = nodes_of others held in
     record {
       entries_are = is ∙ ap₂ (λ es n. es ++ ((a, b), n) ∷ []) t.entries_are (let f : suc (length held) ≡ 1 + length (nodes_of others held) = omega arith in f) ∙
@@ -92,8 +94,8 @@ pub tied_other : (held : List (ℕ × ℕ)) (others : List Other) (entries : Lis
     uses_smaller (suc (length (nodes_of others held))) (node_of x) ≡ true → Tied (held ++ (0, 0) ∷ []) (others ++ x ∷ []) entries
 tied_other held others entries x t few small =
     let is = nodes_other others held x t.counted in
-    let lh = length_one held (0, 0) in
-    let lo = length_one others x in
+    let lh = length_more held (0, 0) in
+    let lo = length_more others x in
     let c = count_more held (0, 0) in
     let tc = t.counted in
     record {

@@ -3,8 +3,8 @@ use Rattle.std.proofs.Common.{◌≡◌, ℕ, suc, ◌*◌, ◌/◌, length, Lis
 use Rattle.std.specs.Prelude.{nat_eq, nat_lt}
 use Rattle.std.proofs.lemmas.List.{append_assoc, append-nil}
 use Rattle.lola_alg.specs.Steps.{Step, into, pairs_step, both_step, either_step, differ_step}
+use Rattle.lola_bits.proofs.Options.{some_same}
 use Rattle.lola_net.specs.declared.node.Node.{Node}
-use Rattle.lola_gate.specs.Values.{some_same}
 use Rattle.lola_gate.specs.Repeated.{Later, Repeated}
 use Rattle.lola_gate.proofs.Again.{gates_repeat, there}
 use Rattle.lola_net.specs.declared.node.Node.TheVariants.{Gate}

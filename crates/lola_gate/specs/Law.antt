@@ -3,12 +3,14 @@ use Rattle.std.proofs.Common.{◌≡◌, ◌⊎◌, ℕ, zero, suc, ◌+◌, ◌
 use Rattle.std.specs.Prelude.{nat_eq, nat_lt}
 use Rattle.std.proofs.lemmas.Bool.{cases_Bool, and_parts, and_from, ltb-true, lt-ltb, eqb-true, eqb-false, eq-eqb}
 use Rattle.lola_alg.specs.Algebra.{Stays, Answers, IsAlgebra}
+use Rattle.lola_bits.proofs.Places.{length_more}
+use Rattle.lola_bits.proofs.Options.{some_same}
 use Rattle.lola_net.specs.declared.node.Node.{Node}
 use Rattle.lola_net.specs.declared.node.Node.TheVariants.{Gate}
 use Rattle.lola_net.specs.Literals.{at_place, at_node, at_literal}
 use Rattle.lola_net.specs.Equations.{is_ordered, uses_smaller}
 use Rattle.lola_gate.specs.Gates.{gates, found, placed, shared_or, shared, both_of, flipped, gates_calls, values, knows_literal, gates_meaning}
-use Rattle.lola_gate.specs.Values.{length_one, some_same, place_last, values_more, values_long, literal_keeps, found_and, ordered_end}
+use Rattle.lola_gate.specs.Values.{place_last, values_more, values_long, literal_keeps, found_and, ordered_end}
 
 -- what it is that a literal is known
 abbrev pub Known : List Node → ℕ → Type 0
@@ -95,7 +97,7 @@ pub one_stays : (d : List Node) (x : Node) → (is_ordered d ≡ true → uses_s
 one_stays d x u = λ b k. (
   elim (known_from d b k) [
     | inl e ↦ known_constant (d ++ x ∷ []) b e
-    | inr p ↦ (let l = length_one d x in known_node (d ++ x ∷ []) b (ordered_end d x p.0 (u p.0)) (omega arith))
+    | inr p ↦ (let l = length_more d x in known_node (d ++ x ∷ []) b (ordered_end d x p.0 (u p.0)) (omega arith))
   ],
   λ v. literal_keeps v d (x ∷ []) b (known_within d b k),
 )
@@ -124,7 +126,7 @@ module _ (d : List Node) (a b : ℕ) (ka : knows_literal d a ≡ true) (kb : kno
       new : Answers gates_meaning d (d ++ Gate a b ∷ [], 2 * suc (length d)) (λ v. at_literal (values v d) a && at_literal (values v d) b)
       new = record {
         stays = one_stays d (Gate a b) (λ o. small);
-        known = (let l = length_one d (Gate a b) in known_node (d ++ Gate a b ∷ []) (2 * suc (length d)) (ordered_end d (Gate a b) ordered small) (omega arith));
+        known = (let l = length_more d (Gate a b) in known_node (d ++ Gate a b ∷ []) (2 * suc (length d)) (ordered_end d (Gate a b) ordered small) (omega arith));
         means = λ v.
             let long : length (values v d) ≡ length d = (let h = values_long v [] d in omega arith) in
             even_value (values v (d ++ Gate a b ∷ [])) (suc (length d)) ∙ ap (λ xs. at_node xs (suc (length d))) (values_more v [] d (Gate a b ∷ [])) ∙

@@ -3,18 +3,13 @@ use Rattle.std.proofs.Common.{◌≡◌, ℕ, zero, suc, ◌+◌, ◌/◌, ◌%�
 use Rattle.std.specs.Prelude.{nat_eq, nat_lt}
 use Rattle.std.specs.Map.{lookup}
 use Rattle.std.proofs.lemmas.Bool.{cases_Bool, and_parts, and_from, ltb-true, eqb-true}
+use Rattle.lola_bits.proofs.Options.{some_same}
+use Rattle.lola_bits.proofs.Places.{length_more}
 use Rattle.lola_net.specs.declared.node.Node.{Node}
 use Rattle.lola_net.specs.declared.node.Node.TheVariants.{Free, Latch, Pad, Gate}
 use Rattle.lola_net.specs.Literals.{at_place, at_node, at_literal}
 use Rattle.lola_net.specs.Equations.{uses_smaller, ordered_from, is_ordered}
 use Rattle.lola_gate.specs.Gates.{gates_from, is_pair, next_value, values_from, values}
-
-pub length_one : {A : Type 0} (xs : List A) (x : A) → length (xs ++ x ∷ []) ≡ suc (length xs)
-length_one [] x = refl
-length_one (y ∷ xs) x = ap suc (length_one xs x)
-
-pub some_same : {A : Type 0} (x y : A) → Some x ≡ Some y → x ≡ y
-some_same x y e = cc
 
 pub place_before : (xs ys : List Bool) (n : ℕ) → n < length xs → at_place (xs ++ ys) n ≡ at_place xs n
 place_before [] ys n e = absurd (omega arith)
@@ -34,13 +29,13 @@ module _ (v : ℕ → Bool) where
   values_long so [] = omega arith
   values_long so (x ∷ xs) =
       let h = values_long (so ++ next_value v so x ∷ []) xs in
-      let e = length_one so (next_value v so x) in
+      let e = length_more so (next_value v so x) in
       omega arith
 
   pub place_stays : (so : List Bool) (xs : List Node) (n : ℕ) → n < length so → at_place (values_from v so xs) n ≡ at_place so n
   place_stays so [] n e = refl
   place_stays so (x ∷ xs) n e =
-      let l = length_one so (next_value v so x) in
+      let l = length_more so (next_value v so x) in
       place_stays (so ++ next_value v so x ∷ []) xs n (omega arith) ∙ place_before so (next_value v so x ∷ []) n e
 
   pub node_stays : (so : List Bool) (xs : List Node) (n : ℕ) → n < suc (length so) → at_node (values_from v so xs) n ≡ at_node so n
@@ -64,16 +59,16 @@ module _ (v : ℕ → Bool) where
       IsAnd (values_from v so xs) (k + length xs) a b n
   found_and a b n so k long [] e o = absurd (let f : None ≡ Some n = e in cc)
   found_and a b n so k long (Free name ∷ xs) e o =
-      let h = found_and a b n (so ++ next_value v so (Free name) ∷ []) (suc k) (length_one so (next_value v so (Free name)) ∙ ap suc long) xs e o in (omega arith, h.1)
+      let h = found_and a b n (so ++ next_value v so (Free name) ∷ []) (suc k) (length_more so (next_value v so (Free name)) ∙ ap suc long) xs e o in (omega arith, h.1)
   found_and a b n so k long (Latch name next ∷ xs) e o =
-      let h = found_and a b n (so ++ next_value v so (Latch name next) ∷ []) (suc k) (length_one so (next_value v so (Latch name next)) ∙ ap suc long) xs e o in (omega arith, h.1)
+      let h = found_and a b n (so ++ next_value v so (Latch name next) ∷ []) (suc k) (length_more so (next_value v so (Latch name next)) ∙ ap suc long) xs e o in (omega arith, h.1)
   found_and a b n so k long (Pad name value release ∷ xs) e o =
-      let h = found_and a b n (so ++ next_value v so (Pad name value release) ∷ []) (suc k) (length_one so (next_value v so (Pad name value release)) ∙ ap suc long) xs e
+      let h = found_and a b n (so ++ next_value v so (Pad name value release) ∷ []) (suc k) (length_more so (next_value v so (Pad name value release)) ∙ ap suc long) xs e
       (and_parts (nat_lt (value / 2) (suc k) && nat_lt (release / 2) (suc k)) (ordered_from (suc (suc k)) xs) o).1 in (omega arith, h.1)
   found_and a b n so k long (Gate p q ∷ xs) e o =
       let parts = and_parts (nat_lt (p / 2) (suc k) && nat_lt (q / 2) (suc k)) (ordered_from (suc (suc k)) xs) o in
       let small = and_parts (nat_lt (p / 2) (suc k)) (nat_lt (q / 2) (suc k)) parts.0 in
-      let there = found_and a b n (so ++ next_value v so (Gate p q) ∷ []) (suc k) (length_one so (next_value v so (Gate p q)) ∙ ap suc long) xs in
+      let there = found_and a b n (so ++ next_value v so (Gate p q) ∷ []) (suc k) (length_more so (next_value v so (Gate p q)) ∙ ap suc long) xs in
       elim (cases_Bool (is_pair (a, b) (p, q))) [
         | inl y ↦ (
             let same = and_parts (nat_eq a p) (nat_eq b q) y in
@@ -86,7 +81,7 @@ module _ (v : ℕ → Bool) where
       here ea eb sa sb en =
           let all = values_from v so (Gate p q ∷ xs) in
           let nv = next_value v so (Gate p q) in
-          let l = length_one so nv in
+          let l = length_more so nv in
           let at : at_place all k ≡ at_place (so ++ nv ∷ []) k = place_stays (so ++ nv ∷ []) xs k (omega arith) in
           let last : at_place (so ++ nv ∷ []) k ≡ nv = subst (λ m. at_place (so ++ nv ∷ []) m ≡ nv) long (place_last so nv) in
           let pa : at_literal all p ≡ at_literal so p = literal_stays so (Gate p q ∷ xs) p (omega arith) in

@@ -3,11 +3,11 @@ use Rattle.std.proofs.Common.{◌≡◌, ℕ, zero, suc, ◌+◌, ◌<◌, ◌�
 use Rattle.std.specs.Prelude.{Some, slice_get}
 use Rattle.std.specs.List.{AllByRecursion}
 use Rattle.std.proofs.lemmas.Bool.{cases_eq}
-use Rattle.std.proofs.lemmas.List.{append-nil, take-append-drop, drop_more}
+use Rattle.std.proofs.lemmas.List.{append-nil, drop_more}
 use Rattle.lola_order.specs.Graph.{Graph, IsChain, IsLoop}
 use Rattle.lola_bits.specs.Lists.{IsIn, AreDistinct}
 use Rattle.lola_order.specs.State.{IsUnmet, IsBlockedBy, IsTrail}
-use Rattle.lola_bits.proofs.Lists.{distinct_front, distinct_turned}
+use Rattle.lola_bits.proofs.Lists.{distinct_turned}
 use Rattle.lola_bits.proofs.All.{all_front, all_back, all_append}
 use Rattle.lola_bits.proofs.Places.{get_in, around, drop_found, take_found}
 use Rattle.lola_order.proofs.Searching.{unmet_before, unmet_apart, unmet_still}
@@ -90,9 +90,6 @@ cut_round g names last signal is trail =
     let e = around names last signal is in
     let r = trail_round g (take last names) signal (drop (suc last) names) (subst (λ (l : List ℕ). IsTrail g signal l) e trail) in
     subst (λ (l : List ℕ). IsRound g l) (sym (let more : last + 1 ≡ suc last = omega arith in rw more (take_found names last signal is))) r
-
-pub cut_distinct : (names : List ℕ) (n : ℕ) → AreDistinct names → AreDistinct (take n names)
-cut_distinct names n distinct = distinct_front (take n names) (drop n names) (subst (λ (l : List ℕ). AreDistinct l) (sym (take-append-drop n names)) distinct)
 
 -- where a signal stands
 pub still_behind : (xs : List ℕ) (i x : ℕ) → i < length xs → (get_or xs i 0 ≡ x → ⊥) → IsIn x (drop i xs) → IsIn x (drop (i + 1) xs)

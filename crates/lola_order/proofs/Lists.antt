@@ -1,8 +1,7 @@
 -- Lists of those that wait, and the first items of a list.
-use Rattle.std.proofs.Common.{◌≡◌, ℕ, zero, suc, ◌+◌, ◌<◌, List, [], ◌∷◌, ◌++◌, length, get_or, set, take, subst, ◌⊎◌, get_or-set_same, arith}
-use Rattle.std.proofs.lemmas.List.{take_more}
+use Rattle.std.proofs.Common.{◌≡◌, ℕ, zero, suc, ◌+◌, ◌<◌, List, [], ◌∷◌, ◌++◌, length, get_or, set, get_or-set_same, arith}
 use Rattle.lola_bits.specs.Lists.{IsIn}
-use Rattle.lola_bits.proofs.Lists.{in_front, in_last, but_last}
+use Rattle.lola_bits.proofs.Lists.{in_front, in_last}
 
 -- one more that waits
 pub waits_here : (lists : List (List ℕ)) (by k : ℕ) (old new : List ℕ) → by < length lists → new ≡ old ++ k ∷ [] → IsIn k (get_or (set lists by new) by [])
@@ -14,7 +13,3 @@ waits_kept (x ∷ lists) zero k old new within was is zero m among = rw is (in_f
 waits_kept (x ∷ lists) zero k old new within was is (suc j) m among = among
 waits_kept (x ∷ lists) (suc by) k old new within was is zero m among = among
 waits_kept (x ∷ lists) (suc by) k old new within was is (suc j) m among = waits_kept lists by k old new (omega arith) was is j m among
-
--- an item among the first ones and one more
-pub in_take_more : (xs : List ℕ) (i j : ℕ) → i < length xs → IsIn j (take (i + 1) xs) → (j ≡ get_or xs i 0) ⊎ IsIn j (take i xs)
-in_take_more xs i j within among = but_last j (get_or xs i 0) (take i xs) (subst (λ (l : List ℕ). IsIn j l) (take_more xs i 0 within) among)

@@ -11,14 +11,13 @@ use Rattle.lola_order.specs.Graph.{Graph, Uses, IsWanted, IsUse, IsReady, IsFirs
 use Rattle.lola_bits.specs.Lists.{IsIn}
 use Rattle.lola_order.specs.State.{Has, Waits, IsWaiting, IsReadied, IsUnmet, unmet_count, IsBlockedBy, UsesMet, IsState}
 use Rattle.lola_bits.proofs.Lists.{in_front, but_last, in_last}
-use Rattle.lola_bits.proofs.Places.{get_in, get_set_same, get_set_other}
-use Rattle.lola_order.proofs.Lists.{in_take_more}
+use Rattle.lola_bits.proofs.Places.{in_take_item, get_in, get_set_same, get_set_other}
 use Rattle.lola_order.proofs.Orders.{placed_more}
 
 -- a look at one more use
 pub passed_more : (uses : List ℕ) (met : List Bool) (start at : ℕ) → at < length uses → (IsUnmet met (get_or uses at 0) → ⊥) →
     ((j : ℕ) → IsIn j (take at uses) → IsUnmet met j → IsIn j (take start uses)) → (j : ℕ) → IsIn j (take (at + 1) uses) → IsUnmet met j → IsIn j (take start uses)
-passed_more uses met start at within is_met so j among unmet = elim (in_take_more uses at j within among) [
+passed_more uses met start at within is_met so j among unmet = elim (in_take_item uses at (get_or uses at 0) j within refl among) [
   | inl same ↦ absurd (is_met (subst (λ (n : ℕ). IsUnmet met n) same unmet))
   | inr before ↦ so j before unmet
 ]

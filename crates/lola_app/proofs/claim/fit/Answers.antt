@@ -1,9 +1,11 @@
 use Rattle.std.proofs.Common.{◌≡◌, [], ◌∷◌, refl, sym, ap, subst, ◌∙◌, map, length, string_bytes}
-use Rattle.small_tree.specs.Table.{table_tree, class_tree, phase_tree, state_tree, set_tree}
 use Rattle.std.specs.List.{AllByRecursion}
+use Rattle.std.proofs.lemmas.List.{length-map}
+use Rattle.lola_bits.specs.Lists.{AreEach}
+use Rattle.lola_bits.proofs.Options.{same_fault}
 use Rattle.lola_elab.specs.Scope.{HasReading}
+use Rattle.small_tree.specs.Table.{table_tree, class_tree, phase_tree, state_tree, set_tree}
 use Rattle.lola_app.specs.declared.states.Shown.{Shown}
-use Rattle.lola_app.specs.Claiming.{AreEach}
 use Rattle.lola_app.specs.Classes.{IsPlainPhase, IsTaken}
 use Rattle.lola_app.specs.Fitting.{IsSetState}
 use Rattle.lola_app.specs.Scoping.{HasRegisters, HasClassNames}
@@ -11,9 +13,7 @@ use Rattle.lola_app.specs.Shown.{IsShown, AreRoles}
 use Rattle.lola_app.specs.Small.{IsNoName, IsSmallRow, AreSmallRows, AreSmallStates}
 use Rattle.lola_app.specs.Starts.{IsStartRow}
 use Rattle.lola_app.specs.Vectors.{interface_in}
-use Rattle.lola_app.proofs.ByRow.{same_fault}
 use Rattle.lola_app.proofs.Fits.{claim_is, class_small, one_place_of, plain_of, registers_read, sets_read, starts_read}
-use Rattle.lola_app.proofs.Leaves.{length_map}
 use Rattle.lola_app.proofs.claim.fit.Goals as goal
 
 pub returns-in_default-only_place-clause-none : goal.returns-in_default-only_place-clause-none
@@ -38,7 +38,7 @@ returns-in-Err-meaning-clause-none c = λ e small.
     let face = interface_in c.args.face in
     let T = table_tree c.args.table.now in
     let has : HasRegisters (length face.inputs) face.registers c.in_ok-registers.registers =
-    subst (λ n. HasRegisters n face.registers c.in_ok-registers.registers) (sym (length_map string_bytes c.args.face.inputs.items)) c.in_ok-registers.ensures in
+    subst (λ n. HasRegisters n face.registers c.in_ok-registers.registers) (sym (length-map c.args.face.inputs.items string_bytes)) c.in_ok-registers.ensures in
     c.in-Err-meaning.ensures.none (same_fault _ _ e) (registers_read face c.in_ok-registers.registers T.invariant has small.invariant)
 
 pub returns-in-Err-meaning-2-clause-none : goal.returns-in-Err-meaning-2-clause-none
@@ -46,7 +46,7 @@ returns-in-Err-meaning-2-clause-none c = λ e small.
     let face = interface_in c.args.face in
     let T = table_tree c.args.table.now in
     let has : HasRegisters (length face.inputs) face.registers c.in_ok-registers.registers =
-    subst (λ n. HasRegisters n face.registers c.in_ok-registers.registers) (sym (length_map string_bytes c.args.face.inputs.items)) c.in_ok-registers.ensures in
+    subst (λ n. HasRegisters n face.registers c.in_ok-registers.registers) (sym (length-map c.args.face.inputs.items string_bytes)) c.in_ok-registers.ensures in
     c.in-Err-meaning-2.ensures.none (same_fault _ _ e) (registers_read face c.in_ok-registers.registers T.boundary has small.boundary)
 
 pub returns-in-Err-check_sets-clause-none : goal.returns-in-Err-check_sets-clause-none
@@ -110,7 +110,7 @@ returns-clause-ok c =
       one_class = ap (map class_tree) (sym c.items-2.ensures) ∙ c.in-Some.ensures;
       one_place = sym c.items-3.ensures ∙ c.in-Some-only_place.ensures;
       takes = subst (λ ps. IsTaken (map phase_tree ps) c.in-Ok.roles.loaded c.in-Some-taken_leaf.taken) c.items-4.ensures c.in-Some-taken_leaf.ensures;
-      register_names = subst (λ n. HasRegisters n face.registers c.in_ok-registers.registers) (sym (length_map string_bytes c.args.face.inputs.items)) c.in_ok-registers.ensures;
+      register_names = subst (λ n. HasRegisters n face.registers c.in_ok-registers.registers) (sym (length-map c.args.face.inputs.items string_bytes)) c.in_ok-registers.ensures;
       class_has = subst (λ xs. HasClassNames c.in-Some-taken_leaf.taken xs c.in_ok-names.names) c.as_slice-2.ensures.value c.in_ok-names.ensures;
       small_invariant = c.in-Ok-meaning.ensures.small;
       small_boundary = c.in-Ok-meaning-2.ensures.small;

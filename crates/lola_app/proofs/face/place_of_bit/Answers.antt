@@ -1,11 +1,11 @@
 use Rattle.std.proofs.Common.{subst, string_bytes}
+use Rattle.std.proofs.Common.{drop}
+use Rattle.lola_bits.specs.Lists.{IsAt}
 use Rattle.lola_elab.specs.declared.vector.Vector.{Vector}
-use Rattle.lola_app.specs.Naming.{IsAt}
 use Rattle.lola_app.specs.Vectors.{bit_names}
 use Rattle.lola_app.proofs.Faces.{one_more_bit, at_head, width_at}
 use Rattle.lola_app.proofs.Places.{at_place}
 use Rattle.lola_app.proofs.face.place_of_bit.Goals as goal
-use Rattle.std.proofs.Common.{drop}
 
 pub returns-then-left-eq0-clause-named : goal.returns-then-left-eq0-clause-named
 returns-then-left-eq0-clause-named c = λ name at.

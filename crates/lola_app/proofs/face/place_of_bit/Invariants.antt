@@ -1,5 +1,5 @@
 use Rattle.std.proofs.Common.{ℕ, List, drop}
-use Rattle.lola_app.specs.Naming.{IsAt}
+use Rattle.lola_bits.specs.Lists.{IsAt}
 use Rattle.lola_app.specs.Vectors.{bit_names}
 use Rattle.lola_app.proofs.face.place_of_bit.Given as goal
 

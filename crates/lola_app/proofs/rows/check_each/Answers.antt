@@ -1,9 +1,10 @@
 use Rattle.std.proofs.Common.{map, string_bytes}
+use Rattle.lola_bits.proofs.Options.{same_fault}
 use Rattle.lola_elab.specs.Scope.{HasReading}
 use Rattle.small_tree.specs.Table.{set_tree}
 use Rattle.lola_app.specs.declared.states.Shown.{Shown}
 use Rattle.lola_app.specs.Small.{IsSmallRow}
-use Rattle.lola_app.proofs.ByRow.{all_at, all_row, same_fault}
+use Rattle.lola_app.proofs.ByRow.{all_at, all_row}
 use Rattle.lola_app.proofs.rows.check_each.Goals as goal
 
 pub returns-in-Err-clause-none : goal.returns-in-Err-clause-none

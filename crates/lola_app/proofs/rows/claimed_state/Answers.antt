@@ -1,4 +1,4 @@
-use Rattle.lola_app.proofs.ByRow.{same_fault}
+use Rattle.lola_bits.proofs.Options.{same_fault}
 use Rattle.lola_app.proofs.rows.claimed_state.Goals as goal
 
 pub returns-in-Err-clause-none : goal.returns-in-Err-clause-none

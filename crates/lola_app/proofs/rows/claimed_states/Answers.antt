@@ -1,7 +1,7 @@
 use Rattle.std.proofs.Common.{map}
+use Rattle.lola_bits.proofs.Options.{same_fault}
 use Rattle.small_tree.specs.Table.{set_tree}
 use Rattle.lola_app.specs.Fitting.{IsSetState}
-use Rattle.lola_app.proofs.ByRow.{same_fault}
 use Rattle.lola_app.proofs.ShownStates.{each_item}
 use Rattle.lola_app.proofs.rows.claimed_states.Goals as goal
 

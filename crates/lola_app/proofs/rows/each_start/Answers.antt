@@ -1,9 +1,10 @@
 use Rattle.std.proofs.Common.{map, string_bytes}
+use Rattle.lola_bits.proofs.Options.{same_fault}
 use Rattle.small_tree.specs.Table.{set_tree}
 use Rattle.lola_app.specs.declared.states.Shown.{Shown}
 use Rattle.lola_app.specs.Small.{IsSmallRow, IsNoName}
 use Rattle.lola_app.specs.Starts.{IsStartRow}
-use Rattle.lola_app.proofs.ByRow.{all_at, same_fault}
+use Rattle.lola_app.proofs.ByRow.{all_at}
 use Rattle.lola_app.proofs.ShownStates.{each_row}
 use Rattle.lola_app.proofs.rows.each_start.Goals as goal
 

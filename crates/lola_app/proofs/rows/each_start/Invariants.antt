@@ -1,6 +1,6 @@
 use Rattle.std.proofs.Common.{take, map}
+use Rattle.lola_bits.specs.Lists.{AreEach}
 use Rattle.small_tree.specs.Table.{set_tree}
-use Rattle.lola_app.specs.Claiming.{AreEach}
 use Rattle.lola_app.specs.Starts.{IsStartRow}
 use Rattle.lola_app.proofs.rows.each_start.Given as goal
 

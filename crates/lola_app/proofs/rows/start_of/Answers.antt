@@ -1,6 +1,6 @@
 use Rattle.std.proofs.Common.{sym, ◌∙◌, ap}
+use Rattle.lola_bits.proofs.Options.{same_fault}
 use Rattle.lola_app.specs.Starts.{leaf_under}
-use Rattle.lola_app.proofs.ByRow.{same_fault}
 use Rattle.lola_app.proofs.SetRows.{none_under}
 use Rattle.lola_app.proofs.rows.start_of.Goals as goal
 

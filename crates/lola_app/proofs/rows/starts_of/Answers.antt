@@ -1,8 +1,8 @@
 use Rattle.std.proofs.Common.{map, string_bytes}
 use Rattle.std.proofs.lemmas.Result.{IfOk-weaker}
+use Rattle.lola_bits.specs.Lists.{AreEach}
 use Rattle.small_tree.specs.Table.{set_tree}
 use Rattle.lola_app.specs.declared.states.Shown.{Shown}
-use Rattle.lola_app.specs.Claiming.{AreEach}
 use Rattle.lola_app.specs.Small.{AreSmallRows, IsNoName}
 use Rattle.lola_app.specs.Starts.{IsStartRow}
 use Rattle.lola_app.proofs.SetRows.{starts_small}

@@ -1,8 +1,9 @@
+use Rattle.lola_bits.proofs.Options.{same_fault}
 use Rattle.small_tree.specs.Table.{state_tree}
 use Rattle.lola_app.specs.Vectors.{interface_in}
 use Rattle.lola_app.specs.Shown.{IsShown}
 use Rattle.lola_app.specs.Small.{IsSmallState}
-use Rattle.lola_app.proofs.ByRow.{all_at, same_fault}
+use Rattle.lola_app.proofs.ByRow.{all_at}
 use Rattle.lola_app.proofs.ShownStates.{each_row}
 use Rattle.lola_app.proofs.states.each_shown.Goals as goal
 

@@ -1,6 +1,6 @@
 use Rattle.std.proofs.Common.{map, take}
+use Rattle.lola_bits.specs.Lists.{AreEach}
 use Rattle.small_tree.specs.Table.{state_tree}
-use Rattle.lola_app.specs.Claiming.{AreEach}
 use Rattle.lola_app.specs.Shown.{IsShown}
 use Rattle.lola_app.specs.Vectors.{interface_in}
 use Rattle.lola_app.proofs.states.each_shown.Given as goal

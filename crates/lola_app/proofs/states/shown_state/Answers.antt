@@ -1,8 +1,8 @@
 use Rattle.std.proofs.Common.{refl, sym, ◌∙◌, ◌+◌, ap, subst, map, length, string_bytes, arith}
-use Rattle.lola_app.specs.Naming.{IsAt}
+use Rattle.std.proofs.lemmas.List.{length-map}
+use Rattle.lola_bits.specs.Lists.{IsAt}
+use Rattle.lola_bits.proofs.Places.{get_in}
 use Rattle.lola_app.specs.Small.{is_taken}
-use Rattle.lola_app.proofs.Leaves.{length_map}
-use Rattle.lola_app.proofs.Places.{at_is_in}
 use Rattle.lola_app.proofs.ShownStates.{shows_register, place_within}
 use Rattle.lola_app.proofs.states.shown_state.Goals as goal
 
@@ -27,12 +27,12 @@ returns-clause-ok c =
       small = record {
         declarable = ap is_taken (sym c.text.ensures) ∙ sym c.is_taken.ensures ∙ c.if-is_taken.false;
         one_bit = c.if-not-is_bit.ensures.0 refl;
-        shows = shows_register _ _ _ c.in-Some.ensures (at_is_in _ _ _ named);
+        shows = shows_register _ _ _ c.in-Some.ensures (get_in _ _ _ named);
       };
       named = c.in_ok-from_str.ensures.ok ∙ c.text-3.ensures;
       register = c.in-Some.register.now;
       place = c.in-Some-place_of.place;
       shows = c.in-Some.ensures;
       at = named;
-      leaf = ap (λ n. n + c.in-Some-place_of.place) (ap length c.as_slice-2.ensures.value ∙ sym (length_map string_bytes c.args.face.now.inputs.items));
+      leaf = ap (λ n. n + c.in-Some-place_of.place) (ap length c.as_slice-2.ensures.value ∙ sym (length-map c.args.face.now.inputs.items string_bytes));
     }

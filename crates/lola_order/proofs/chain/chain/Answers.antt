@@ -4,8 +4,9 @@ use Rattle.std.specs.List.{AllByRecursion}
 use Rattle.std.proofs.lemmas.Option.{slice_get-get_or}
 use Rattle.lola_order.specs.Graph.{Graph, IsLoop}
 use Rattle.lola_bits.specs.Lists.{IsIn, AreDistinct}
+use Rattle.lola_bits.proofs.Lists.{distinct_take}
 use Rattle.lola_order.specs.State.{IsTrail}
-use Rattle.lola_order.proofs.Chains.{IsRound, a_loop, cut_round, cut_distinct}
+use Rattle.lola_order.proofs.Chains.{IsRound, a_loop, cut_round}
 use Rattle.lola_order.proofs.chain.chain.Goals as goal
 
 long : (g : Graph) (xs : List ℕ) → IsRound g xs → 0 < length xs
@@ -19,7 +20,7 @@ turned_loop g names cut signal last at trail distinct there is within least =
     let round : IsRound g cut = rw is (cut_round g names last signal there trail) in
     let below : at < length cut = within (long g cut round) in
     let first : slice_get cut at ≡ Some (get_or cut at 0) = slice_get-get_or cut at 0 below in
-    a_loop g cut at (get_or cut at 0) first round (rw is (cut_distinct names (last + 1) distinct)) (least (get_or cut at 0) first)
+    a_loop g cut at (get_or cut at 0) first round (rw is (distinct_take (last + 1) names distinct)) (least (get_or cut at 0) first)
 
 pub turned-requires : goal.turned-requires
 turned-requires c = let e = c.as_slice-2.ensures.len in let f = c.as_slice-3.ensures.len in let b = c.earliest-first.ensures.at_most in omega arith
