@@ -1,4 +1,4 @@
--- No name of a module is declared twice.
+-- No name of a module is declared twice as a port or local name. Constants have no paths, so they are not counted.
 use Rattle.std.specs.Prelude.{ℕ, ◌+◌, ◌≤◌, bytes_eq, List, [], ◌∷◌, map}
 use Rattle.lola_tree.specs.declared.module.Port.{Port}
 use Rattle.lola_tree.specs.declared.module.Local.{Local}

@@ -3,6 +3,7 @@ use Rattle.std.proofs.Common.{◌≡◌, ◌≢◌, ℕ, zero, suc, ◌+◌, ◌
 use Rattle.std.specs.Prelude.{Option, Some, None, slice_get, MatchOption}
 use Rattle.std.specs.Option.{is_none}
 use Rattle.std.proofs.lemmas.Bool.{cases_eq}
+use Rattle.std.proofs.lemmas.Grind.{get_or_default_zero}
 use Rattle.std.proofs.lemmas.Option.{slice_get_within}
 use Rattle.std.proofs.lemmas.List.{take_all, length-map}
 use Rattle.lola_order.specs.declared.ready.Ready.{Ready}
@@ -17,7 +18,7 @@ use Rattle.lola_order.proofs.Orders.{placed_more}
 -- a look at one more use
 pub passed_more : (uses : List ℕ) (met : List Bool) (start at : ℕ) → at < length uses → (IsUnmet met (get_or uses at 0) → ⊥) →
     ((j : ℕ) → IsIn j (take at uses) → IsUnmet met j → IsIn j (take start uses)) → (j : ℕ) → IsIn j (take (at + 1) uses) → IsUnmet met j → IsIn j (take start uses)
-passed_more uses met start at within is_met so j among unmet = elim (in_take_item uses at (get_or uses at 0) j within refl among) [
+passed_more uses met start at within is_met so j among unmet = elim (in_take_item uses at (get_or uses at 0) j within (sym (get_or_default_zero uses at (get_or uses at 0) within)) among) [
   | inl same ↦ absurd (is_met (subst (λ (n : ℕ). IsUnmet met n) same unmet))
   | inr before ↦ so j before unmet
 ]

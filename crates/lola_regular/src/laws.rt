@@ -7,7 +7,7 @@ ghost use Rattle.lola_design.specs.Drives.{PadsFit};
 ghost use Rattle.lola_regular.specs.Clocked.{AreClocked};
 ghost use Rattle.lola_regular.specs.Written.{IsWritten};
 
-/// No name of a module of a well sized source is declared twice.
+/// No name of a module of a well sized source is declared twice as a port or local name.
 pub fn names_are_once()
     ensures { (S : SourceTree) → IsWellSized S → AllOnce (reverse S.modules) }
 {}

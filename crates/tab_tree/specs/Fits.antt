@@ -1,5 +1,6 @@
--- Which tables suit a design: no rule of tables is broken. Each field of `IsFitting` asks at least that
--- faults of one kind don't occur; together they ask that none does.
+-- Which tables suit a design: no rule of tables is broken. Each field of `IsFitting` speaks of faults of one kind;
+-- together they ask that there is none. A fault may also be kept out by a field of another kind: what an array
+-- state shows, say, is asked by `kinds` to be a register, and so no name in it is unknown.
 use Rattle.std.specs.Prelude.{◌≡◌, ◌≢◌, ◌⊎◌, ℕ, ◌≤◌, Bool, true, false, ◌&&◌, ◌||◌, nat_eq, cond, List, [], ◌∷◌, ◌++◌, length, map, Option, Some, None, is_some}
 use Rattle.std.specs.List.{AllByRecursion}
 use Rattle.lola_tree.specs.declared.named.Ref.{Ref}

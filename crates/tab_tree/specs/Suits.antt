@@ -32,15 +32,15 @@ HasForm (array_form count width) (Many xs) = (length xs ≡ count) × AllByRecur
 abbrev pub SuitsArch : TableTree → Arch → Type 0
 SuitsArch T A = AreEach (λ (row : StateTree) (a : StateValue). HasForm (shape_form row.shape) a) T.states A
 
--- the width of a role's port, or 1 where the role is absent
-abbrev pub answer_width : SourceTree → Option (List ℕ) → ℕ
-answer_width S None = 1
-answer_width S (Some port) = or_zero (port_width S port)
+-- what a role brings: a vector of its port's width, or 0 of width 1 where the role is absent
+abbrev pub SuitsRole : SourceTree → Option (List ℕ) → Bits → Type 0
+SuitsRole S None x = (x.width ≡ 1) × (x.value ≡ 0)
+SuitsRole S (Some port) x = IsOf (or_zero (port_width S port)) x
 
--- an answer has the widths of FETCHED and LOADED
+-- an answer brings what FETCHED and LOADED do
 pub record SuitsAnswer (S : SourceTree) (T : TableTree) (answer : Answer) : Type 0 where
-  pub code : IsOf (answer_width S T.roles.fetched) answer.code
-  pub loaded : IsOf (answer_width S T.roles.loaded) answer.loaded
+  pub code : SuitsRole S T.roles.fetched answer.code
+  pub loaded : SuitsRole S T.roles.loaded answer.loaded
 
 -- a table that fits some design, with states, a word and answers of its widths
 pub record IsSuited (T : TableTree) (A : Arch) (word : Bits) (answers : List Answer) : Type 0 where
