@@ -1,11 +1,11 @@
 -- What a design of vectors does, over the names of its inputs and registers.
-use Rattle.std.proofs.Common.{◌≡◌, ℕ, suc, ◌+◌, ◌*◌, ◌≤◌, Bool, true, false, List, [], ◌∷◌, ◌++◌, length, map, Option, Some, None, refl, sym, ap, ap₂, ◌∙◌, subst, arith, inl, inr, ◌⊎◌}
+use Rattle.std.proofs.Common.{◌≡◌, ℕ, suc, ◌+◌, ◌*◌, ◌≤◌, true, false, List, [], ◌∷◌, ◌++◌, length, map, Option, Some, None, refl, sym, ap, ap₂, ◌∙◌, subst, arith, inl, inr, ◌⊎◌}
 use Rattle.std.proofs.lemmas.List.{map-append, length-map}
 use Rattle.std.specs.Prelude.{filter, ◌&&◌, not, string_bytes, bytes_eq}
 use Rattle.std.proofs.lemmas.Bool.{cases_Bool}
 use Rattle.lola_bits.specs.Lists.{IsIn, AreDistinct}
 use Rattle.lola_bits.specs.Names.{is_among}
-use Rattle.lola_bits.proofs.Lists.{from_map, to_map, from_filter, distinct_front, distinct_back, distinct_filter, filter_few}
+use Rattle.lola_bits.proofs.Lists.{distinct_front, distinct_back, distinct_filter, filter_few}
 use Rattle.lola_bits.proofs.Names.{same_name, is_same_name}
 use Rattle.lola_tree.specs.declared.named.Shape.{Shape}
 use Rattle.lola_tree.specs.declared.named.Shape.TheVariants as shape
@@ -33,8 +33,6 @@ use Rattle.lola_app.specs.Obligations.{root_width, total}
 use Rattle.lola_app.specs.Small.{width_in}
 use Rattle.lola_app.specs.Valuations.{AreWithin}
 use Rattle.lola_app.proofs.Leaves.{values_agree, valued, value_under, read_back, within_long}
-
-    ]
 
 of_local : (kind : LocalKind) (own name : List ℕ) (xs ys : List (List ℕ)) → (IsIn name xs → IsIn name ys) → IsIn name (name_of_register kind own ++ xs) → (name ≡ own) ⊎ IsIn name ys
 of_local (Reg clock type) own name xs ys later (inl same) = inl same

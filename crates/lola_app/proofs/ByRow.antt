@@ -1,8 +1,7 @@
 -- Rows of a list, taken one by one, and faults that are handed on.
-use Rattle.std.proofs.Common.{◌≡◌, ℕ, ◌+◌, ◌<◌, List, [], ◌∷◌, ◌++◌, length, map, take, get_or, sym, ap, subst, ◌∙◌}
+use Rattle.std.proofs.Common.{◌≡◌, ℕ, ◌+◌, ◌<◌, List, length, map, take, get_or, sym, subst}
 use Rattle.std.specs.Prelude.{Result, Err}
 use Rattle.std.specs.List.{AllByRecursion}
-use Rattle.std.proofs.lemmas.List.{take_more, map-append}
 use Rattle.lola_bits.proofs.All.{of_all, all_more}
 use Rattle.lola_bits.proofs.Lists.{to_map}
 use Rattle.lola_bits.proofs.Places.{item_in, map_item}

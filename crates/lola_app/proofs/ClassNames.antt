@@ -1,5 +1,5 @@
 -- What the names of a class mean over the leaves of a design.
-use Rattle.std.proofs.Common.{◌≡◌, ◌≢◌, ℕ, Bool, true, false, List, [], ◌∷◌, ◌++◌, map, Some, None, refl, sym, ap, subst, ◌∙◌, inl, inr, ◌⊎◌}
+use Rattle.std.proofs.Common.{◌≡◌, ◌≢◌, ℕ, Bool, true, false, List, [], ◌∷◌, ◌++◌, map, Some, None, refl, sym, ap, subst, ◌∙◌, inl, inr}
 use Rattle.std.specs.Prelude.{bytes_eq, string_bytes, if◌then◌else◌, Option, codes}
 use Rattle.std.proofs.lemmas.Bool.{cases_Bool}
 use Rattle.lola_bits.specs.Lists.{IsIn, AreEach, IsAt}
@@ -22,8 +22,6 @@ use Rattle.lola_app.specs.Shown.{IsShown, IsLoadedAt}
 use Rattle.lola_app.specs.Small.{Interface, IsInClass, IsClassName, state_names, is_taken}
 use Rattle.lola_app.specs.Starts.{leaf_under}
 use Rattle.lola_app.proofs.ScopeMeans.{IsScope, no_path, bare_reading, source_reading, input_value, entered_under, names_shown, first_entry, find_entered, first_state, leaf_reading}
-
-]
 
 -- the first entry under a name is there exactly where the name is among those of the entries
 abbrev pub entry_names : List Entered → List (List ℕ)

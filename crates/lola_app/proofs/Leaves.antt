@@ -2,7 +2,7 @@
 -- them that a table sees.
 use Rattle.std.proofs.Common.{◌≡◌, ℕ, zero, suc, ◌+◌, ◌<◌, ◌≤◌, ◌^◌, Bool, true, false, List, [], ◌∷◌, ◌++◌, length, map, take, drop, Some, None, refl, sym, ap, ap₂, ◌∙◌, subst, arith, inl, inr}
 use Rattle.std.specs.Prelude.{bytes_eq, nat_eq, slice_get, string_bytes, if◌then◌else◌}
-use Rattle.std.proofs.lemmas.List.{map-append, length-map}
+use Rattle.std.proofs.lemmas.List.{map-append}
 use Rattle.std.proofs.lemmas.Bool.{cases_Bool}
 use Rattle.lola_bits.specs.Lists.{IsIn, AreDistinct, IsAt}
 use Rattle.lola_bits.proofs.Names.{same_name, other_name}

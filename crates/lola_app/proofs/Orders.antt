@@ -1,8 +1,7 @@
 -- Numbers of given widths, and the one number that their bits spell.
-use Rattle.std.proofs.Common.{◌≡◌, ℕ, suc, ◌+◌, ◌*◌, ◌/◌, ◌%◌, ◌<◌, ◌≤◌, ◌^◌, Bool, true, false, List, [], ◌∷◌, refl, sym, ap, ap₂, ◌∙◌, subst, arith, ◌⊎◌, inl, inr}
+use Rattle.std.proofs.Common.{◌≡◌, ℕ, suc, ◌+◌, ◌*◌, ◌/◌, ◌%◌, ◌<◌, ◌≤◌, ◌^◌, Bool, true, false, List, [], ◌∷◌, refl, sym, ap, ap₂, ◌∙◌, subst, arith, inl, inr}
 use Rattle.std.proofs.lemmas.Nat.{pow_below, pow_pos, pow-add, shr_high, mod_low, shr_below, mod_below, mul-le, mul-add-lt, div-add-mod'}
 use Rattle.std.proofs.Math.Nat.{suc-mul}
-use Rattle.std.proofs.lemmas.Bool.{cases_Bool}
 use Rattle.lola_app.specs.Obligations.{total, ComesBefore}
 use Rattle.lola_app.specs.Valuations.{AreWithin, numbers_of, Always, IsLeast}
 

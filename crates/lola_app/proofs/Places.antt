@@ -1,10 +1,8 @@
 -- Names at places of lists.
-use Rattle.std.proofs.Common.{◌≡◌, ◌≢◌, ℕ, zero, suc, ◌+◌, ◌<◌, true, false, List, [], ◌∷◌, length, map, get_or, drop, Some, None, refl, sym, ◌∙◌, ap, subst, inl, inr}
-use Rattle.std.specs.Prelude.{bytes_eq}
+use Rattle.std.proofs.Common.{◌≡◌, ◌≢◌, ℕ, ◌+◌, ◌<◌, List, ◌∷◌, length, map, get_or, drop, Some, None, refl, sym, ◌∙◌, ap, subst, inl, inr}
 use Rattle.std.proofs.lemmas.Option.{slice_get_read, slice_get-map}
 use Rattle.std.specs.Option.{option_map}
 use Rattle.lola_bits.specs.Lists.{IsIn, IsAt}
-use Rattle.lola_bits.proofs.Names.{same_name}
 use Rattle.lola_bits.proofs.Places.{drop_item, get_in}
 use Rattle.small_tree.specs.Table.{TableTree}
 use Rattle.lola_app.specs.declared.roles.Roles.{Roles}
