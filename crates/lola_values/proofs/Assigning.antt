@@ -1,9 +1,9 @@
 -- The values that a well sized design assigns fit their widths.
-use Rattle.std.proofs.Common.{◌≡◌, ℕ, List, [], reverse, Option, Some, None, ◌^◌, ◌<◌}
+use Rattle.std.proofs.Common.{◌≡◌, ℕ, List, reverse, Option, Some, ◌^◌, ◌<◌}
 use Rattle.std.specs.List.{AllByRecursion}
 use Rattle.lola_bits.specs.Lists.{IsIn}
 use Rattle.lola_bits.proofs.All.{of_all}
-use Rattle.lola_tree.specs.Tree.{Tree, ActualTree, assignment, ModuleTree, SourceTree}
+use Rattle.lola_tree.specs.Tree.{Tree, ActualTree, assignment, SourceTree}
 use Rattle.lola_tree.specs.Names.{names_of}
 use Rattle.lola_tree.specs.Width.{scope_of, width}
 use Rattle.lola_tree.specs.Value.{Values, value}
@@ -16,7 +16,8 @@ use Rattle.lola_regular.specs.Written.{IsWrittenStmt, IsWrittenModule}
 use Rattle.lola_regular.proofs.Clean.{AllClean}
 use Rattle.lola_values.proofs.Standing.{all_stand}
 use Rattle.lola_values.proofs.Reading.{the_clock}
-use Rattle.lola_values.proofs.Sides.{stmt_clean, assigned_clean}
+use Rattle.lola_regular.proofs.PadsPassed.{stmt_free}
+use Rattle.lola_values.proofs.Sides.{assigned_clean}
 use Rattle.lola_values.proofs.Known.{NumbersAll}
 use Rattle.lola_values.proofs.Fitting.{expression_fits}
 
@@ -27,6 +28,6 @@ assigned_fits numbers S clean written clocked a there name place e at equals sai
     let k = all_stand S clean written clocked a there in
     let t = assignment name place e at equals in
     let good = of_all IsWrittenStmt t a.module_.body k.stands.written said in
-    let none = stmt_clean (names_of a.module_) (seen_behind k.stands.earlier) (the_clock S a.module_ a.path a.clocks k.stands) a.module_.body k.stands.clean.body t said in
+    let none = stmt_free (names_of a.module_) (seen_behind k.stands.earlier) (the_clock S a.module_ a.path a.clocks k.stands) a.module_.body k.stands.clean.body t said in
     let expr = assigned_clean S (names_of a.module_) (seen_behind k.stands.earlier) (the_clock S a.module_ a.path a.clocks k.stands) name place e at equals none in
     (expression_fits numbers S a.module_ a.path a.clocks k.stands v e suit good.1 expr w wide).below

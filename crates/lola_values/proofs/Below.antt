@@ -1,8 +1,8 @@
 -- Values are below 2 to their widths, and places below the numbers of elements.
-use Rattle.std.proofs.Common.{List, [], ◌∷◌, ◌++◌, refl, ◌≡◌, ℕ, zero, suc, ◌+◌, ◌-◌, ◌*◌, ◌/◌, ◌%◌, ◌^◌, ◌<◌, ◌≤◌, Bool, true, false, cond, not, Option, Some, None, sym, ◌∙◌, ap, ap₂, subst, arith, inl, inr}
+use Rattle.std.proofs.Common.{List, ◌++◌, refl, ◌≡◌, ℕ, zero, suc, ◌+◌, ◌-◌, ◌*◌, ◌/◌, ◌%◌, ◌^◌, ◌<◌, ◌≤◌, Bool, true, false, cond, not, Option, Some, None, sym, ◌∙◌, ap, ap₂, subst, arith, inl, inr}
 use Rattle.std.specs.Prelude.{nat_eq, nat_lt, bit_and}
 use Rattle.std.proofs.lemmas.Nat.{and_le_l, pow_pos}
-use Rattle.std.proofs.Math.Nat.{div-le_self, add_comm}
+use Rattle.std.proofs.Math.Nat.{div-le_self}
 use Rattle.lola_bits.specs.declared.op.Op.{Op}
 use Rattle.lola_bits.specs.declared.op.Op.TheVariants as op
 use Rattle.lola_bits.specs.Number.{bit_at, slice_of, joined, inverted, operate, moved_filled}
@@ -13,7 +13,6 @@ use Rattle.lola_bits.proofs.Options.{some_same, nothing}
 use Rattle.lola_tree.specs.declared.named.Ref.{Ref}
 use Rattle.lola_tree.specs.Tree.{Tree, number, whole, bit, slice, index, concat, negation, binary, choice, Parts, no_part, one_part}
 use Rattle.lola_tree.specs.Width.{Scope as Widths, width, total_width, same_width, defined_width, bit_width, repeated_width, operator_width}
-use Rattle.std.specs.Option.{is_none}
 use Rattle.lola_bits.specs.Lists.{IsIn}
 use Rattle.lola_bits.proofs.Lists.{in_front, in_back, in_either}
 use Rattle.lola_tree.specs.design.Chains.{name_in, names_in, part_names_in, elements_in, part_elements_in}

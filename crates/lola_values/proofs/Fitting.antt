@@ -1,28 +1,29 @@
--- Where what an expression of a well sized module reads has values of its types, its value is below 2 to its width.
-use Rattle.std.proofs.Common.{◌≡◌, ◌≢◌, ℕ, ◌^◌, ◌<◌, List, [], ◌∷◌, ◌++◌, map, Option, Some, None, refl, sym, ◌∙◌, ap, ap₂, subst, ◌⊎◌, inl, inr}
+-- Where what an expression of a well sized module reads has values of its types, its value is below 2 to its width,
+-- and no place that it reads is past an array.
+use Rattle.std.proofs.Common.{◌≡◌, ℕ, ◌^◌, ◌<◌, List, [], ◌++◌, Option, Some, None, sym, ◌∙◌, ap, subst, inl, inr}
 use Rattle.lola_bits.specs.Lists.{IsIn}
 use Rattle.lola_bits.specs.Vector.{FitsWidth}
 use Rattle.lola_bits.proofs.Lists.{to_map}
 use Rattle.lola_tree.specs.declared.named.Ref.{Ref}
-use Rattle.lola_tree.specs.declared.named.Count.{Count}
 use Rattle.lola_tree.specs.declared.named.Shape.{Shape}
 use Rattle.lola_tree.specs.declared.named.Shape.TheVariants.{Vector, Array}
 use Rattle.lola_tree.specs.Names.{Entry, port, constant, local, Names, names_of, count_number, constant_number, ref_name}
 use Rattle.lola_tree.specs.Tree.{Tree, ModuleTree, SourceTree}
-use Rattle.lola_tree.specs.Width.{scope_of, width, vector_width, element_width, elements_width, entry_width, named_shape, checked_place, place_width}
+use Rattle.lola_tree.specs.Width.{scope_of, width, vector_width, element_width, elements_width, entry_width, named_shape, checked_place}
 use Rattle.lola_tree.specs.Value.{Path, Values, value, or_zero}
 use Rattle.lola_tree.specs.Cycle.{names_at, FitsIn}
-use Rattle.lola_tree.specs.design.Signals.{Signal, signals, register, elements}
-use Rattle.lola_tree.specs.design.Cycle.{IsSignal, Suits}
+use Rattle.lola_tree.specs.design.Signals.{Signal, elements}
+use Rattle.lola_tree.specs.design.Cycle.{Suits}
 use Rattle.lola_tree.specs.design.Chains.{names_in, elements_in, arrays_in, paths_of}
 use Rattle.lola_width.specs.NameFaults.{expr_faults}
-use Rattle.lola_design.specs.Regular.{IsVector, IsArray, ReadsSuit}
+use Rattle.lola_design.specs.Regular.{IsVector, IsArray, ReadsSuit, AreWithin}
 use Rattle.lola_regular.specs.Written.{IsWrittenTree}
 use Rattle.lola_values.proofs.Standing.{Stands}
 use Rattle.lola_values.proofs.Reading.{the_clock, VectorRead, ArrayRead, names_read, elements_read}
 use Rattle.lola_values.proofs.Widths.{checked_is, number_in}
 use Rattle.lola_values.proofs.Known.{NumbersAll}
 use Rattle.lola_values.proofs.Below.{value_fits}
+use Rattle.lola_values.proofs.Lefts.{PathsOnce, the_signal}
 
 -- a value of a type, by its width
 vector_fits : (names : Names) (type : Shape) (x : ℕ → ℕ) (w : ℕ) → IsVector type → Suits names type x → vector_width names (Some type) ≡ Some w → FitsWidth w (x 0)
@@ -42,7 +43,7 @@ place_elements : NumbersAll → (o : Option ℕ) (k : ℕ) → checked_place o �
 place_elements numbers None k e = absurd (let f : None ≡ Some k = e in cc)
 place_elements numbers (Some n) k e = ((numbers n k).0 e).2
 
-elements_are : NumbersAll → (names : Names) (type : Shape) (k : ℕ) → IsArray type → elements_width names (Some type) ≡ Some k → elements names type ≡ 2 ^ k
+pub elements_are : NumbersAll → (names : Names) (type : Shape) (k : ℕ) → IsArray type → elements_width names (Some type) ≡ Some k → elements names type ≡ 2 ^ k
 elements_are numbers names (Vector c) k is e = absurd is
 elements_are numbers names (Array n c) k is e = place_elements numbers (count_number names n) k e
 
@@ -85,8 +86,21 @@ module _ (numbers : NumbersAll) (S : SourceTree) (m : ModuleTree) (p : Path) (cl
       let x = is.0 in
       ap (limit_of (names_of m)) x.4 ∙ elements_are numbers (names_of m) x.0.type k x.2 (ap (elements_width (names_of m)) (sym x.4) ∙ place)
 
-  pub expression_fits : IsWrittenTree e → expr_faults (names_of m) (the_clock S m p clocks s) e ≡ [] → (w : ℕ) → width (scope_of m) e ≡ Some w → FitsWidth w (value (scope_of m) e (names_at p v))
-  expression_fits written none w wide =
-      (value_fits (scope_of m) (names_at p v) (λ r. limit_of (names_of m) (named_shape (names_of m (ref_name r)))) IsNameRead IsElementRead read_fits
+  -- its value fits, and so do the places of the elements that it reads
+  sound : IsWrittenTree e → expr_faults (names_of m) (the_clock S m p clocks s) e ≡ [] → (w : ℕ) → width (scope_of m) e ≡ Some w →
+      FitsWidth w (value (scope_of m) e (names_at p v)) × ((a : Ref × Tree) → IsIn a (elements_in e) → value (scope_of m) a.1 (names_at p v) < limit_of (names_of m) (named_shape (names_of m (ref_name a.0))))
+  sound written none w wide =
+      value_fits (scope_of m) (names_at p v) (λ r. limit_of (names_of m) (named_shape (names_of m (ref_name r)))) IsNameRead IsElementRead read_fits
       (λ r c k is_number is_wide. constant_fits (names_of m) (names_of m (ref_name r)) c k is_number is_wide) stored_fits limit_is
-      e (λ r is. (names_read S m p clocks s e written none r is, is)) (λ a is. (elements_read S m p clocks s e written none a is, to_map (λ (b : Ref × Tree). b.0) a (elements_in e) is)) w wide).0
+      e (λ r is. (names_read S m p clocks s e written none r is, is)) (λ a is. (elements_read S m p clocks s e written none a is, to_map (λ (b : Ref × Tree). b.0) a (elements_in e) is)) w wide
+
+  pub expression_fits : IsWrittenTree e → expr_faults (names_of m) (the_clock S m p clocks s) e ≡ [] → (w : ℕ) → width (scope_of m) e ≡ Some w → FitsWidth w (value (scope_of m) e (names_at p v))
+  expression_fits written none w wide = (sound written none w wide).0
+
+  pub elements_within : PathsOnce S → IsWrittenTree e → expr_faults (names_of m) (the_clock S m p clocks s) e ≡ [] → (w : ℕ) → width (scope_of m) e ≡ Some w → AreWithin S m p v e
+  elements_within once written none w wide a is x stored same =
+      let y = elements_read S m p clocks s e written none a is in
+      let one = the_signal S once (p ++ a.0.path) x y.0 stored.0 y.1.0 same y.3 in
+      let limit : limit_of (names_of m) (named_shape (names_of m (ref_name a.0))) ≡ elements x.names x.type =
+      ap (limit_of (names_of m)) y.4 ∙ ap (λ (k : Names). elements k y.0.type) (sym y.5) ∙ ap (λ (k : Signal). elements k.names k.type) (sym one) in
+      subst (λ (n : ℕ). value (scope_of m) a.1 (names_at p v) < n) limit ((sound written none w wide).1 a is)

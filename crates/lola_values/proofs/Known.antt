@@ -1,33 +1,24 @@
 -- Expressions of a module without faults have widths.
-use Rattle.std.proofs.Common.{◌≡◌, ℕ, ◌+◌, ◌-◌, ◌*◌, ◌^◌, ◌≤◌, Bool, true, false, cond, List, [], ◌∷◌, ◌++◌, Option, Some, None, refl, sym, ap, ap₂, ◌∙◌, subst, inl, inr, arith}
+use Rattle.std.proofs.Common.{◌≡◌, ℕ, ◌+◌, ◌-◌, ◌*◌, ◌^◌, ◌≤◌, Bool, true, false, List, [], ◌++◌, Option, Some, None, refl, sym, ap, ap₂, ◌∙◌, subst, arith}
 use Rattle.std.specs.Prelude.{nat_eq, nat_lt, not, ◌&&◌, ◌↔◌}
 use Rattle.std.proofs.lemmas.Nat.{mul-le}
 use Rattle.std.proofs.lemmas.Bool.{cond-false, and_parts, false≢true}
 use Rattle.std.proofs.lemmas.Bool.Decides.{nat_tests}
 use Rattle.lola_bits.specs.declared.op.Op.{Op}
 use Rattle.lola_bits.specs.declared.op.Op.TheVariants as op
-use Rattle.lola_bits.specs.Lists.{IsIn}
-use Rattle.lola_bits.specs.Vector.{FitsWidth}
 use Rattle.lola_bits.proofs.Tests.{chosen_yes, none_unless, none_where}
 use Rattle.lola_bits.proofs.Lists.{both_none}
 use Rattle.lola_tree.specs.declared.named.Count.{Count}
 use Rattle.lola_tree.specs.declared.named.Count.TheVariants as count
 use Rattle.lola_tree.specs.declared.named.Ref.{Ref}
-use Rattle.lola_tree.specs.declared.named.Shape.{Shape}
 use Rattle.lola_tree.specs.declared.named.Shape.TheVariants as shape
-use Rattle.lola_tree.specs.declared.module.Port.{Port}
-use Rattle.lola_tree.specs.declared.module.Const.{Const}
-use Rattle.lola_tree.specs.declared.module.LocalKind.{LocalKind}
-use Rattle.lola_tree.specs.declared.module.LocalKind.TheVariants.{Reg, Var, Inst}
-use Rattle.lola_tree.specs.declared.module.Local.{Local}
 use Rattle.lola_tree.specs.Tree.{Tree, number, whole, bit, slice, index, concat, negation, binary, choice, Parts, no_part, one_part, ModuleTree}
-use Rattle.lola_tree.specs.Names.{Entry, port, constant, local, Names, names_of, count_number, constant_number, kind_shape, ref_name}
+use Rattle.lola_tree.specs.Names.{Entry, port, constant, local, Names, names_of, count_number, constant_number, ref_name}
 use Rattle.lola_tree.specs.Value.{or_zero}
 use Rattle.lola_tree.specs.Width.{is_width, scope_of, is_number, written_width, number_width, checked_width, checked_place, place_width, vector_width, element_width, elements_width, entry_width, bit_width, slice_width, same_width, defined_width, operator_width, repeated_width, joined_width, width, total_width}
 use Rattle.lola_width.specs.declared.uses.Use.TheVariants as use_
-use Rattle.lola_width.specs.Interface.{Seen}
-use Rattle.lola_width.specs.NameFaults.{is_constant, use_faults, may_count, shape_faults, array_faults, type_faults, port_faults, kind_faults, local_faults, value_faults, expr_faults, part_faults, count_faults}
-use Rattle.lola_width.specs.WidthFaults.{count_at, too_wide, shape_widths, port_widths, kind_widths, local_widths, number_faults, const_widths, differ, beyond, turned_round, never, wide, operator_faults, expr_widths, part_widths}
+use Rattle.lola_width.specs.NameFaults.{is_constant, use_faults, may_count, shape_faults, array_faults, type_faults, value_faults, expr_faults, part_faults, count_faults}
+use Rattle.lola_width.specs.WidthFaults.{count_at, too_wide, shape_widths, differ, beyond, turned_round, never, wide, operator_faults, expr_widths, part_widths}
 use Rattle.lola_regular.specs.Written.{IsBetween, IsWrittenTree, AreWrittenParts}
 use Rattle.lola_values.proofs.Widths.{equal_is, checked_is, number_in, same_self, width_checked}
 

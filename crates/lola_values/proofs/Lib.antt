@@ -6,5 +6,16 @@ pub mod Widths
 pub mod Below
 pub mod Known
 pub mod Wide
+pub mod OneSignal
+pub mod Lefts
 pub mod Fitting
 pub mod Assigning
+pub mod Agree
+pub mod Targets
+pub mod Sound
+pub mod Entered
+pub mod Inherited
+pub mod PadWidths
+pub mod Arguments
+pub mod Statements
+pub mod AllFit

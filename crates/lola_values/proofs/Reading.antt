@@ -1,8 +1,7 @@
 -- What an expression of a well sized module reads: vectors that are signals but the clock, and arrays of registers.
-use Rattle.std.proofs.Common.{◌≡◌, ◌≢◌, ℕ, Bool, true, false, cond, not, List, [], ◌∷◌, ◌++◌, map, Option, Some, None, refl, sym, ◌∙◌, ap, subst, ◌⊎◌, inl, inr, ap₂}
-use Rattle.std.specs.Prelude.{bytes_eq, ◌&&◌}
+use Rattle.std.proofs.Common.{◌≡◌, ◌≢◌, ℕ, true, false, cond, not, List, [], ◌∷◌, ◌++◌, Option, Some, None, refl, sym, ◌∙◌, ap, subst, inl, inr, ap₂}
 use Rattle.std.specs.Option.{is_none}
-use Rattle.std.proofs.lemmas.Bool.{cases_Bool, and_parts, false≢true, false_from_ne_true}
+use Rattle.std.proofs.lemmas.Bool.{and_parts, false≢true, false_from_ne_true}
 use Rattle.lola_bits.specs.Lists.{IsIn}
 use Rattle.lola_bits.specs.Names.{is_among}
 use Rattle.lola_bits.proofs.Lists.{both_none, in_either, from_map}
@@ -11,9 +10,7 @@ use Rattle.lola_bits.proofs.Tests.{none_unless, none_where}
 use Rattle.lola_tree.specs.declared.named.Ref.{Ref}
 use Rattle.lola_tree.specs.declared.named.Shape.{Shape}
 use Rattle.lola_tree.specs.declared.named.Shape.TheVariants.{Vector, Array}
-use Rattle.lola_tree.specs.declared.module.Way.{Way}
-use Rattle.lola_tree.specs.declared.module.Way.TheVariants.{Inward, Outward, Both}
-use Rattle.lola_tree.specs.declared.module.Port.{Port}
+use Rattle.lola_tree.specs.declared.module.Way.TheVariants.{Inward}
 use Rattle.lola_tree.specs.declared.module.LocalKind.{LocalKind}
 use Rattle.lola_tree.specs.declared.module.LocalKind.TheVariants.{Reg, Var, Inst}
 use Rattle.lola_tree.specs.declared.module.Local.{Local}
@@ -21,7 +18,7 @@ use Rattle.lola_tree.specs.Names.{Entry, port, constant, local, Names, names_of,
 use Rattle.lola_tree.specs.Width.{Scope, scope_of, vector_width, entry_width, named_shape}
 use Rattle.lola_tree.specs.Tree.{Tree, number, whole, bit, slice, index, concat, negation, binary, choice, Parts, no_part, one_part, ModuleTree, SourceTree}
 use Rattle.lola_tree.specs.Value.{Path}
-use Rattle.lola_tree.specs.design.Signals.{Kind, clock, register, Signal, signals}
+use Rattle.lola_tree.specs.design.Signals.{clock, register, Signal, signals}
 use Rattle.lola_tree.specs.design.Cycle.{IsSignal}
 use Rattle.lola_tree.specs.design.Chains.{name_in, names_in, part_names_in, elements_in, part_elements_in, arrays_in, paths_of}
 use Rattle.lola_width.specs.declared.uses.Use.{Use}
@@ -64,6 +61,12 @@ pub used_entry : (used : Use) (at : ℕ) (name : List ℕ) (o : Option Entry) �
 used_entry used at name None none = absurd (cc)
 used_entry used at name (Some e) none = (e, refl, none_unless (suits used e) _ none)
 
+-- a declaration that is a signal where it has a type: any but an IN port that is the clock
+abbrev pub IsOpen : List (List ℕ) → Entry → Type 0
+IsOpen clocks (port q) = q.way ≡ Inward → is_among clocks q.name ≡ false
+IsOpen clocks (constant c) = Unit {0}
+IsOpen clocks (local l) = Unit {0}
+
 module _ (S : SourceTree) (m : ModuleTree) (p : Path) (clocks : List (List ℕ)) (s : Stands S m p clocks) where
   abbrev pub the_clock : Option (List ℕ)
   the_clock = clock_in (seen_behind s.earlier) m
@@ -102,15 +105,22 @@ module _ (S : SourceTree) (m : ModuleTree) (p : Path) (clocks : List (List ℕ))
   local_read r l (Var type) e x same wide = shown_read r (p ++ l.name ∷ []) type x (vector_is type e) same wide
   local_read r l (Inst of) e x same wide = absurd (false≢true e)
 
+  pub open_read : (r : Ref) → IsOneName r → (e : Entry) → names_of m (ref_name r) ≡ Some e → is_vector (entry_shape e) ≡ true → IsOpen clocks e → VectorRead r
+  open_read r one (port q) named fits free =
+      let f = port_found m (ref_name r) q named in
+      shown_read r (p ++ q.name ∷ []) q.shape (s.port q f.0 free) (vector_is q.shape fits) (at_ref r one q.name f.1) (ap (entry_width (names_of m)) named)
+  open_read r one (constant c) named fits free = absurd (false≢true fits)
+  open_read r one (local l) named fits free =
+      let f = local_found m (ref_name r) l named in
+      local_read r l l.kind fits (s.local l f.0) (at_ref r one l.name f.1) (ap (entry_width (names_of m)) named)
+
   entry_read : (r : Ref) → IsOneName r → (e : Entry) → names_of m (ref_name r) ≡ Some e → suits use_.Value e ≡ true → constant_number (Some e) ≡ None → is_clock the_clock (ref_name r) ≡ false → VectorRead r
   entry_read r one (port q) named fits free no_clock =
       let f = port_found m (ref_name r) q named in
       let parts = and_parts (not (is_both q.way)) (is_vector (Some q.shape)) fits in
-      shown_read r (p ++ q.name ∷ []) q.shape (s.port q f.0 (λ inward. no_clock_name q.name (subst (λ (n : List ℕ). is_clock the_clock n ≡ false) f.1 no_clock))) (vector_is q.shape parts.1) (at_ref r one q.name f.1) (ap (entry_width (names_of m)) named)
+      open_read r one (port q) named parts.1 (λ inward. no_clock_name q.name (subst (λ (n : List ℕ). is_clock the_clock n ≡ false) f.1 no_clock))
   entry_read r one (constant c) named fits free no_clock = absurd (let e : Some c.value ≡ None = free in cc)
-  entry_read r one (local l) named fits free no_clock =
-      let f = local_found m (ref_name r) l named in
-      local_read r l l.kind fits (s.local l f.0) (at_ref r one l.name f.1) (ap (entry_width (names_of m)) named)
+  entry_read r one (local l) named fits free no_clock = open_read r one (local l) named fits tt
 
   pub value_read : (r : Ref) → IsOneName r → value_faults (names_of m) the_clock r ≡ [] → (scope_of m).number r ≡ None → VectorRead r
   value_read r one none free =
@@ -127,7 +137,7 @@ module _ (S : SourceTree) (m : ModuleTree) (p : Path) (clocks : List (List ℕ))
       absurd (not_both_types type e (type_vector (names_of m) l.at l.name type typed))
   kind_array r l there (Inst of) kind e x same shaped = absurd (false≢true e)
 
-  array_entry : (r : Ref) → IsOneName r → (e : Entry) → names_of m (ref_name r) ≡ Some e → suits use_.Indexed e ≡ true → ArrayRead r
+  pub array_entry : (r : Ref) → IsOneName r → (e : Entry) → names_of m (ref_name r) ≡ Some e → suits use_.Indexed e ≡ true → ArrayRead r
   array_entry r one (port q) named fits = let f = port_found m (ref_name r) q named in absurd (not_both_types q.shape fits (ports_vectors (names_of m) m.ports s.clean.ports q f.0))
   array_entry r one (constant c) named fits = absurd (false≢true fits)
   array_entry r one (local l) named fits = let f = local_found m (ref_name r) l named in kind_array r l f.0 l.kind refl fits (s.local l f.0) (at_ref r one l.name f.1) (ap named_shape named)

@@ -1,47 +1,40 @@
 -- What the equations and updates of a well sized design read.
-use Rattle.std.proofs.Common.{◌≡◌, ◌≢◌, ℕ, Bool, true, false, cond, List, [], ◌∷◌, ◌++◌, map, reverse, Option, Some, None, refl, sym, ◌∙◌, ap, subst, ◌⊎◌, inl, inr}
-use Rattle.std.specs.Prelude.{bytes_eq, if◌then◌else◌, flat_map, IsSome}
+use Rattle.std.proofs.Common.{◌≡◌, ℕ, Bool, true, false, cond, List, [], ◌∷◌, ◌++◌, reverse, Option, Some, None, refl, sym, ◌∙◌, ap, subst, inl, inr}
+use Rattle.std.specs.Prelude.{if◌then◌else◌, flat_map}
 use Rattle.std.specs.List.{AllByRecursion}
-use Rattle.std.proofs.lemmas.Bool.{cases_Bool, cond-true, cond-false, false≢true}
+use Rattle.std.proofs.lemmas.Bool.{cases_Bool, cond-false, false≢true}
 use Rattle.lola_bits.specs.Lists.{IsIn}
 use Rattle.lola_bits.specs.Names.{is_among}
-use Rattle.lola_bits.proofs.Lists.{both_none, in_either, from_map, from_flat_map, in_front, in_back}
+use Rattle.lola_bits.proofs.Lists.{both_none, in_either, from_map, from_flat_map}
 use Rattle.lola_bits.proofs.All.{of_all}
-use Rattle.lola_bits.proofs.Names.{is_same_name}
-use Rattle.lola_tree.specs.declared.named.Named.{Named}
-use Rattle.lola_tree.specs.declared.named.Ref.{Ref}
 use Rattle.lola_tree.specs.declared.named.Shape.{Shape}
 use Rattle.lola_tree.specs.declared.module.Way.{Way}
 use Rattle.lola_tree.specs.declared.module.Way.TheVariants.{Inward, Outward, Both}
 use Rattle.lola_tree.specs.declared.module.Port.{Port}
-use Rattle.lola_tree.specs.declared.module.LocalKind.{LocalKind}
-use Rattle.lola_tree.specs.declared.module.LocalKind.TheVariants.{Reg, Var, Inst}
-use Rattle.lola_tree.specs.declared.module.Local.{Local}
 use Rattle.lola_tree.specs.Names.{Entry, port, constant, local, Names, names_of, ref_name}
 use Rattle.lola_tree.specs.Width.{scope_of}
 use Rattle.lola_tree.specs.Tree.{Tree, number, whole, bit, slice, index, concat, negation, binary, choice, ActualTree, StmtTree, assignment, call, pad, ModuleTree, SourceTree}
 use Rattle.lola_tree.specs.Value.{Path}
 use Rattle.lola_tree.specs.Signals.{register_names}
-use Rattle.lola_tree.specs.design.Calls.{args_of, bare_path}
-use Rattle.lola_tree.specs.design.Places.{Caller, Place, places, pad_of}
-use Rattle.lola_tree.specs.design.Signals.{Signal, signals}
-use Rattle.lola_tree.specs.design.Equations.{Right, expression, copied, driven, Equation, way_equations, arg_equations, caller_equations, stmt_equations, place_equations, equations, Update, stmt_updates, place_updates, updates}
+use Rattle.lola_tree.specs.design.Calls.{bare_path}
+use Rattle.lola_tree.specs.design.Places.{Caller, Place, places}
+use Rattle.lola_tree.specs.design.Equations.{Right, expression, copied, Equation, way_equations, arg_equations, caller_equations, stmt_equations, place_equations, equations, Update, stmt_updates, place_updates, updates}
 use Rattle.lola_tree.specs.design.Chains.{names_in, arrays_in, paths_of, right_paths, right_arrays, flat_equation, flat_equations}
 use Rattle.lola_width.specs.declared.uses.Use.TheVariants as use_
-use Rattle.lola_width.specs.declared.interface.Pin.{Pin}
-use Rattle.lola_width.specs.Interface.{Seen, bare_name, kind_pins, instance_pins, listed, is_clock, pins_of}
+use Rattle.lola_width.specs.Interface.{Seen, bare_name, is_clock, pins_of}
 use Rattle.lola_width.specs.declared.fault.SourceFault.TheVariants.{Kind}
-use Rattle.lola_width.specs.Sized.{clock_in, pins_in}
-use Rattle.lola_width.specs.NameFaults.{is_both, suits, use_faults, expr_faults, bare_faults, clock_faults, way_faults, arg_faults, args_faults, stmt_faults, body_faults}
+use Rattle.lola_width.specs.NameFaults.{is_both, suits, use_faults, expr_faults, bare_faults, clock_faults, way_faults, args_faults, stmt_faults}
 use Rattle.lola_design.specs.Regular.{IsVector, AreRead, update_paths, update_arrays}
 use Rattle.lola_regular.specs.Clocked.{seen_behind, AreClocked}
 use Rattle.lola_regular.specs.Written.{IsWrittenTree, IsWrittenArgument, IsWrittenPlace, IsWrittenStmt, IsWrittenModule}
 use Rattle.lola_regular.proofs.Clean.{AllClean}
-use Rattle.lola_regular.proofs.Named.{are_distinct, port_found, local_named}
+use Rattle.lola_regular.proofs.Named.{port_found}
 use Rattle.lola_regular.proofs.Ways.{clock_inward}
+use Rattle.lola_regular.proofs.PadsPassed.{stmt_free}
 use Rattle.lola_values.proofs.Types.{ports_vectors}
-use Rattle.lola_values.proofs.Standing.{Shown, Stands, IsCalled, IsCalledBy, PlaceStands, all_stand}
-use Rattle.lola_values.proofs.Reading.{used_entry, the_clock, no_clock_name, no_name_clock, at_ref, expression_read}
+use Rattle.lola_values.proofs.Standing.{Shown, Stands, PlaceStands, all_stand}
+use Rattle.lola_values.proofs.Reading.{used_entry, the_clock, no_name_clock, at_ref, expression_read}
+use Rattle.lola_values.proofs.Entered.{arguments_of}
 
 abbrev RightRead : SourceTree → Right → Type 0
 RightRead S r = AreRead S (right_paths r) (right_arrays r)
@@ -61,41 +54,6 @@ both_read S xs ys us vs p q = record {
   vector = λ y there. elim (in_either y xs ys there) [ inl front ↦ p.vector y front | inr back ↦ q.vector y back ];
   array = λ y there. elim (in_either y us vs there) [ inl front ↦ p.array y front | inr back ↦ q.array y back ];
 }
-
--- the faults of one statement, and of the arguments of a call
-pub stmt_clean : (names : Names) (seen : Seen) (clock : Option (List ℕ)) (ts : List StmtTree) → body_faults names seen clock ts ≡ [] → (t : StmtTree) → IsIn t ts → stmt_faults names seen clock t ≡ []
-stmt_clean names seen clock [] none t is = absurd is
-stmt_clean names seen clock (u ∷ ts) none t is =
-    let split = both_none (stmt_faults names seen clock u) (body_faults names seen clock ts) none in
-    elim is [
-      | inl same ↦ subst (λ (j : StmtTree). stmt_faults names seen clock j ≡ []) (sym same) split.0
-      | inr later ↦ stmt_clean names seen clock ts split.1 t later
-    ]
-
-args_clean : (names : Names) (seen : Seen) (clock : Option (List ℕ)) (ts : List StmtTree) → body_faults names seen clock ts ≡ [] → (name : List ℕ) → args_faults names clock (args_of ts name) (listed (instance_pins seen (names name))) ≡ []
-args_clean names seen clock [] none name = refl
-args_clean names seen clock (assignment other place e at equals ∷ ts) none name = args_clean names seen clock ts (both_none (stmt_faults names seen clock (assignment other place e at equals)) (body_faults names seen clock ts) none).1 name
-args_clean names seen clock (pad io inner e release at ∷ ts) none name = args_clean names seen clock ts (both_none (stmt_faults names seen clock (pad io inner e release at)) (body_faults names seen clock ts) none).1 name
-args_clean names seen clock (call other args at ∷ ts) none name =
-    let split = both_none (stmt_faults names seen clock (call other args at)) (body_faults names seen clock ts) none in
-    let own = both_none (use_faults use_.Called at other (names other)) (args_faults names clock args (listed (instance_pins seen (names other)))) split.0 in
-    elim (cases_Bool (bytes_eq other name)) [
-      | inl same ↦
-          subst (λ (l : List ActualTree). args_faults names clock l (listed (instance_pins seen (names name))) ≡ []) (sym (cond-true (bytes_eq other name) args (args_of ts name) same))
-          (subst (λ (n : List ℕ). args_faults names clock args (listed (instance_pins seen (names n))) ≡ []) (is_same_name other name same) own.1)
-      | inr apart ↦
-          subst (λ (l : List ActualTree). args_faults names clock l (listed (instance_pins seen (names name))) ≡ []) (sym (cond-false (bytes_eq other name) args (args_of ts name) apart))
-          (args_clean names seen clock ts split.1 name)
-    ]
-
-args_written : (ts : List StmtTree) → AllByRecursion IsWrittenStmt ts → (name : List ℕ) → AllByRecursion IsWrittenArgument (args_of ts name)
-args_written [] all name = tt
-args_written (assignment other place e at equals ∷ ts) all name = args_written ts all.1 name
-args_written (pad io inner e release at ∷ ts) all name = args_written ts all.1 name
-args_written (call other args at ∷ ts) all name = elim (cases_Bool (bytes_eq other name)) [
-  | inl same ↦ subst (AllByRecursion IsWrittenArgument) (sym (cond-true (bytes_eq other name) args (args_of ts name) same)) all.0
-  | inr apart ↦ subst (AllByRecursion IsWrittenArgument) (sym (cond-false (bytes_eq other name) args (args_of ts name) apart)) (args_written ts all.1 name)
-]
 
 -- a pad is a port whose signal is a vector
 pad_entry : (S : SourceTree) (m : ModuleTree) (p : Path) (clocks : List (List ℕ)) (s : Stands S m p clocks) (n : List ℕ) (e : Entry) → names_of m n ≡ Some e → suits use_.Pad e ≡ true → RightRead S (copied (p ++ n ∷ []))
@@ -168,20 +126,8 @@ module _ (S : SourceTree) where
   caller_read : (a : Place) (k : PlaceStands S a) (c : Option Caller) → a.caller ≡ c → (e : Equation) → IsIn e (caller_equations a c) → RightRead S e.right
   caller_read a k None is_caller e is = absurd is
   caller_read a k (Some c) is_caller e is =
-      let called = subst (λ (o : Option Caller). IsCalledBy S a o) is_caller k.called in
-      let link = called.0 in
-      let sa = called.1.0 in
-      let sc = link.stands in
-      let names = names_of c.module_ in
-      let entry : names link.instance.name ≡ Some (local link.instance) = local_named c.module_ link.instance (are_distinct c.module_ sc.clean.doubled) link.there in
-      let pins : instance_pins (seen_behind sc.earlier) (names link.instance.name) ≡ Some (pins_in (seen_behind sa.earlier) a.module_) =
-      ap (instance_pins (seen_behind sc.earlier)) entry ∙ ap (kind_pins (seen_behind sc.earlier)) link.kind ∙ ap (λ (l : List ModuleTree). seen_behind l link.of.name) link.same ∙ link.pins
-      ∙ ap (λ (l : List ModuleTree). Some (pins_in (seen_behind l) a.module_)) (sym called.1.1) in
-      let clean = args_clean names (seen_behind sc.earlier) (the_clock S c.module_ c.path link.clocks sc) c.module_.body sc.clean.body link.instance.name in
-      let none = subst (λ (o : Option (List Pin)). args_faults names (the_clock S c.module_ c.path link.clocks sc) (args_of c.module_.body link.instance.name) (listed o) ≡ []) pins clean in
-      args_read a.module_ a.path a.clocks sa c.module_ c.path link.clocks sc a.module_.ports (λ r there. there) c.args
-      (subst (AllByRecursion IsWrittenArgument) (sym link.args) (args_written c.module_.body sc.written link.instance.name))
-      (subst (λ (l : List ActualTree). args_faults names (the_clock S c.module_ c.path link.clocks sc) l (pins_in (seen_behind sa.earlier) a.module_) ≡ []) (sym link.args) none) e is
+      let g = arguments_of S a k c is_caller in
+      args_read a.module_ a.path a.clocks g.own c.module_ c.path g.clocks g.caller a.module_.ports (λ r there. there) c.args g.written g.free e is
 
   -- a statement
   pub assigned_clean : (names : Names) (seen : Seen) (clock : Option (List ℕ)) (name : List ℕ) (place : Option ActualTree) (x : Tree) (at equals : ℕ) → stmt_faults names seen clock (assignment name place x at equals) ≡ [] → expr_faults names clock x ≡ []
@@ -190,7 +136,7 @@ module _ (S : SourceTree) where
       let split = both_none (use_faults use_.ElementAssigned at name (names name)) (expr_faults names clock place.value ++ expr_faults names clock x) none in
       (both_none (expr_faults names clock place.value) (expr_faults names clock x) split.1).1
 
-  if_one : (b : Bool) (one e : Equation) → IsIn e (if b then [] else one ∷ []) → e ≡ one
+  pub if_one : (b : Bool) (one e : Equation) → IsIn e (if b then [] else one ∷ []) → e ≡ one
   if_one true one e is = absurd is
   if_one false one e (inl same) = same
   if_one false one e (inr none) = absurd none
@@ -217,7 +163,7 @@ module _ (S : SourceTree) where
           | inr (inr absent) ↦ absurd absent
         ]
 
-    if_update : (b : Bool) (one u : Update) → IsIn u (if b then one ∷ [] else []) → u ≡ one
+    pub if_update : (b : Bool) (one u : Update) → IsIn u (if b then one ∷ [] else []) → u ≡ one
     if_update true one u (inl same) = same
     if_update true one u (inr none) = absurd none
     if_update false one u is = absurd is
@@ -251,7 +197,7 @@ module _ (S : SourceTree) where
           | inr said ↦
               let t = from_flat_map (stmt_equations a) e a.module_.body said in
               stmt_read a k.stands t.0 (of_all IsWrittenStmt t.0 a.module_.body k.stands.written t.1)
-              (stmt_clean (names_of a.module_) (seen_behind k.stands.earlier) (the_clock S a.module_ a.path a.clocks k.stands) a.module_.body k.stands.clean.body t.0 t.1) e t.2
+              (stmt_free (names_of a.module_) (seen_behind k.stands.earlier) (the_clock S a.module_ a.path a.clocks k.stands) a.module_.body k.stands.clean.body t.0 t.1) e t.2
         ]
 
     pub flat_reads : (e : Equation) → IsIn e (flat_equations S) → AreRead S (right_paths e.right) (right_arrays e.right)
@@ -266,4 +212,4 @@ module _ (S : SourceTree) where
         let k = all_stand S clean written clocked a f.1 in
         let t = from_flat_map (stmt_updates a) u a.module_.body f.2 in
         update_read a k.stands t.0 (of_all IsWrittenStmt t.0 a.module_.body k.stands.written t.1)
-        (stmt_clean (names_of a.module_) (seen_behind k.stands.earlier) (the_clock S a.module_ a.path a.clocks k.stands) a.module_.body k.stands.clean.body t.0 t.1) u t.2
+        (stmt_free (names_of a.module_) (seen_behind k.stands.earlier) (the_clock S a.module_ a.path a.clocks k.stands) a.module_.body k.stands.clean.body t.0 t.1) u t.2

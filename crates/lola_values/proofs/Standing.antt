@@ -1,6 +1,6 @@
 -- Each module of a well sized design at its path: its signals are those of the design, and it is called as one is.
-use Rattle.std.proofs.Common.{◌≡◌, ◌≢◌, ℕ, Bool, true, false, cond, List, [], ◌∷◌, ◌++◌, map, reverse, Option, Some, None, refl, sym, ◌∙◌, ap, subst, ◌⊎◌, inl, inr}
-use Rattle.std.specs.Prelude.{bytes_eq, if◌then◌else◌, flat_map}
+use Rattle.std.proofs.Common.{◌≡◌, ◌≢◌, ℕ, Bool, true, false, List, [], ◌∷◌, ◌++◌, reverse, Option, Some, None, refl, sym, ◌∙◌, ap, subst, inl, inr}
+use Rattle.std.specs.Prelude.{bytes_eq}
 use Rattle.std.specs.List.{AllByRecursion}
 use Rattle.std.proofs.lemmas.Bool.{cases_Bool, cond-true, cond-false}
 use Rattle.lola_bits.specs.Lists.{IsIn}
@@ -19,9 +19,8 @@ use Rattle.lola_tree.specs.Tree.{ModuleTree, SourceTree}
 use Rattle.lola_tree.specs.Value.{Path}
 use Rattle.lola_tree.specs.design.Calls.{args_of}
 use Rattle.lola_tree.specs.design.Clocks.{clocks_in, clock_ports}
-use Rattle.lola_tree.specs.design.Places.{Pads, own_pads, passed_pads, Caller, Place, Inside, kind_places, local_places, places_at, places_inside, root_places, places}
+use Rattle.lola_tree.specs.design.Places.{Pads, own_pads, passed_pads, Caller, Place, kind_places, local_places, places_at, places_inside, root_places, places}
 use Rattle.lola_tree.specs.design.Signals.{Kind, clock, input, pad, wire, register, Signal, root_kind, root_port, root_ports, shown_port, instance_port, instance_ports, kind_signals, local_signals, signals_at, signals_inside, root_signals, signals}
-use Rattle.lola_width.specs.declared.interface.Pin.{Pin}
 use Rattle.lola_width.specs.Sized.{pins_in}
 use Rattle.lola_regular.specs.Clocked.{seen_behind, IsClocked, AreClocked}
 use Rattle.lola_regular.specs.Written.{IsWrittenModule}

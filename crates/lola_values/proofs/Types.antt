@@ -1,7 +1,6 @@
 -- In a well sized design only registers are arrays.
-use Rattle.std.proofs.Common.{◌≡◌, ◌≢◌, ℕ, Bool, true, false, cond, List, [], ◌∷◌, ◌++◌, map, reverse, Option, Some, None, refl, sym, ◌∙◌, ap, subst, ◌⊎◌, inl, inr}
-use Rattle.std.specs.Prelude.{bytes_eq, if◌then◌else◌, flat_map, ◌&&◌}
-use Rattle.std.proofs.lemmas.Bool.{cases_Bool, cond-true, cond-false}
+use Rattle.std.proofs.Common.{◌≡◌, ◌≢◌, ℕ, Bool, true, false, List, [], ◌∷◌, ◌++◌, reverse, Option, sym, ap, subst, inl, inr}
+use Rattle.std.specs.Prelude.{bytes_eq, if◌then◌else◌}
 use Rattle.lola_bits.specs.Lists.{IsIn}
 use Rattle.lola_bits.proofs.Lists.{both_none, in_either, from_map, from_flat_map}
 use Rattle.lola_bits.specs.Names.{is_among}
@@ -13,14 +12,13 @@ use Rattle.lola_tree.specs.declared.module.Port.{Port}
 use Rattle.lola_tree.specs.declared.module.LocalKind.{LocalKind}
 use Rattle.lola_tree.specs.declared.module.LocalKind.TheVariants.{Reg, Var, Inst}
 use Rattle.lola_tree.specs.declared.module.Local.{Local}
-use Rattle.lola_tree.specs.Names.{Names, names_of, count_number}
-use Rattle.lola_tree.specs.Width.{checked_place}
+use Rattle.lola_tree.specs.Names.{Names, names_of}
 use Rattle.lola_tree.specs.Tree.{ModuleTree, SourceTree}
 use Rattle.lola_tree.specs.Value.{Path}
 use Rattle.lola_tree.specs.design.Clocks.{clocks_in, clock_ports}
-use Rattle.lola_tree.specs.design.Signals.{Kind, register, wire, Signal, root_port, root_ports, shown_port, instance_port, instance_ports, kind_signals, local_signals, signals_at, signals_inside, root_signals, signals}
+use Rattle.lola_tree.specs.design.Signals.{register, wire, Signal, root_port, root_ports, shown_port, instance_port, instance_ports, kind_signals, local_signals, signals_at, signals_inside, root_signals, signals}
 use Rattle.lola_width.specs.Interface.{Seen}
-use Rattle.lola_width.specs.NameFaults.{may_count, shape_faults, array_faults, type_faults, port_faults, no_clock, module_faults, kind_faults, local_faults}
+use Rattle.lola_width.specs.NameFaults.{shape_faults, array_faults, type_faults, port_faults, kind_faults, local_faults}
 use Rattle.lola_width.specs.Sized.{clock_in}
 use Rattle.lola_design.specs.Regular.{IsVector}
 use Rattle.lola_regular.specs.Clocked.{seen_behind}

@@ -9,10 +9,12 @@ ghost use Rattle.lola_tree.specs.design.Places.{Place, places};
 ghost use Rattle.lola_tree.specs.Value.{Values, value};
 ghost use Rattle.lola_tree.specs.Cycle.{names_at};
 ghost use Rattle.lola_width.specs.Sized.{IsWellSized};
-ghost use Rattle.lola_design.specs.Regular.{IsVector, AreRead, ReadsSuit, update_paths, update_arrays};
+ghost use Rattle.lola_design.specs.Regular.{IsVector, AreRead, ReadsSuit, update_paths, update_arrays, ValuesFit};
 ghost use Rattle.lola_regular.specs.Clocked.{AreClocked};
 ghost use Rattle.lola_regular.specs.Written.{IsWritten};
 
+use lola_design::one_path;
+use lola_regular::{names_are_once, one_clock, pads_are_pads};
 use lola_width::what_numbers_elements;
 
 /// In a well sized design every signal but a register is a vector.
@@ -40,4 +42,16 @@ pub fn values_are_below()
     ensures { (S : SourceTree) (a : Place) (name : List ℕ) (place : Option ActualTree) (e : Tree) (at equals : ℕ) (v : Values) (w : ℕ) → IsWellSized S → IsWritten S → AreClocked (reverse S.modules) → IsIn a (places S) → IsIn (assignment name place e at equals) a.module_.body → ReadsSuit S (paths_of a.path (names_in (scope_of a.module_) e)) (paths_of a.path (arrays_in e)) v → width (scope_of a.module_) e ≡ Some w → value (scope_of a.module_) e (names_at a.path v) < 2 ^ w }
 {
     what_numbers_elements();
+}
+
+/// In a well sized design what an equation or an update gives fits the signal that it sets, and no place is
+/// past an array, where what is read has values of its types.
+pub fn values_fit()
+    ensures { (S : SourceTree) → IsWellSized S → IsWritten S → ValuesFit S }
+{
+    names_are_once();
+    one_clock();
+    pads_are_pads();
+    what_numbers_elements();
+    one_path();
 }

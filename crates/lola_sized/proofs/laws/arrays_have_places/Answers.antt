@@ -1,4 +1,3 @@
-use Rattle.std.specs.Prelude.{reverse}
 use Rattle.lola_regular.proofs.Clean.{all_clean, all_written}
 use Rattle.lola_sized.proofs.Places.{array_place}
 use Rattle.lola_sized.proofs.laws.arrays_have_places.Goals as goal
