@@ -1,0 +1,11 @@
+pub mod Clauses
+pub mod Hints
+pub mod Good
+pub mod Derives
+pub mod Truth
+pub mod Marks
+pub mod Keys
+pub mod Arena
+pub mod Held
+pub mod State
+pub mod Whole
