@@ -1,0 +1,10 @@
+pub mod Clocks
+pub mod Elements
+pub mod Few
+pub mod Shares
+pub mod OneCase
+pub mod SameCycles
+pub mod TableSteps
+pub mod Vectors
+pub mod PlainCycles
+pub mod Orders
