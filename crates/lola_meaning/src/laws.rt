@@ -1,0 +1,98 @@
+ghost use Rattle.std.specs.Prelude.{◌≡◌, ◌≤◌, ℕ, List, Option, Some, reverse};
+ghost use Rattle.lola_tree.specs.Tree.{Tree, ModuleTree, SourceTree};
+ghost use Rattle.lola_tree.specs.Names.{names_of};
+ghost use Rattle.lola_tree.specs.Width.{scope_of, width};
+ghost use Rattle.lola_tree.specs.Value.{Path, Values, value};
+ghost use Rattle.lola_tree.specs.Cycle.{names_at};
+ghost use Rattle.lola_tree.specs.design.Signals.{size};
+ghost use Rattle.lola_tree.specs.design.Cycle.{IsState, IsGiven, Cycle, Next};
+ghost use Rattle.lola_width.specs.Sized.{IsWellSized};
+ghost use Rattle.lola_design.specs.Once.{AllOnce};
+ghost use Rattle.lola_design.specs.Regular.{AreWithin};
+ghost use Rattle.lola_regular.specs.Written.{IsWritten};
+ghost use Rattle.lola_flat.specs.Tree.{FlatTree};
+ghost use Rattle.lola_flat.specs.Value.{env, Fits};
+ghost use Rattle.lola_flat.specs.Value as flat;
+ghost use Rattle.lola_flat.specs.Signals.{widths_of};
+ghost use Rattle.lola_flat.specs.Formed.{IsFormed};
+ghost use Rattle.lola_flat.specs.Cycle.{IsCycle, IsNext};
+ghost use Rattle.lola_unfold.specs.Translated.{translated};
+ghost use Rattle.lola_unfold.specs.Flat.{seen_from, numbers_of, flat_design, IsElaborated};
+ghost use Rattle.lola_meaning.specs.Tables.{table_of, given_of, outside_of, state_of, values_of, Has};
+ghost use Rattle.lola_meaning.specs.Typed.{IsTyped, AreTyped, ClockFits};
+
+use lola_design::one_path;
+use lola_regular::{each_is_assigned, names_are_once, one_clock};
+use lola_sized::well_sized_is_regular;
+use lola_unfold::flat_uses;
+use lola_width::what_numbers_elements;
+
+/// Each signal of a well sized design has a type of some width, what its expressions read has the types that
+/// their modules take it for, and what its equations and updates give has the width of their signal.
+pub fn types_suit()
+    ensures { (S : SourceTree) → IsWellSized S → IsWritten S → AreTyped S }
+{
+    names_are_once();
+    one_clock();
+    one_path();
+    well_sized_is_regular();
+    what_numbers_elements();
+}
+
+/// A well sized design with registers has a clock, which is one port of one bit.
+pub fn one_clock_port()
+    ensures { (S : SourceTree) → IsWellSized S → IsWritten S → ClockFits S }
+{
+    each_is_assigned();
+    names_are_once();
+    one_clock();
+    one_path();
+}
+
+/// An expression of a module at a path, translated, has in the flat design the width that it has, and the
+/// value that it has under a valuation whose values stand in the table.
+pub fn expressions_mean()
+    ensures width { (S : SourceTree) (order : List ℕ) (m : ModuleTree) (p : Path) (e : Tree) (w : ℕ) → AllOnce (reverse S.modules) → IsTyped S m p e → width (scope_of m) e ≡ Some w → flat.width (widths_of (flat_design S order)) (translated (names_of m) (seen_from (numbers_of S) p) e) ≡ w }
+    ensures fits { (S : SourceTree) (order : List ℕ) (m : ModuleTree) (p : Path) (e : Tree) (w : ℕ) → AllOnce (reverse S.modules) → IsTyped S m p e → width (scope_of m) e ≡ Some w → Fits (widths_of (flat_design S order)) (translated (names_of m) (seen_from (numbers_of S) p) e) }
+    ensures value { (S : SourceTree) (order : List ℕ) (m : ModuleTree) (p : Path) (e : Tree) (w : ℕ) (N : List (List ℕ)) (outside : List ℕ) (v : Values) → AllOnce (reverse S.modules) → IsTyped S m p e → width (scope_of m) e ≡ Some w → Has S N v → AreWithin S m p v e → flat.value (widths_of (flat_design S order)) (env N outside) (translated (names_of m) (seen_from (numbers_of S) p) e) ≡ value (scope_of m) e (names_at p v) }
+{
+    one_path();
+    what_numbers_elements();
+}
+
+/// The cycles of a source from a state under an input are those of its flat design that is given the same:
+/// a cycle stands in a table that is one, and each such table is that of a cycle.
+pub fn cycles_are_flat()
+    ensures to_flat { (S : SourceTree) (F : FlatTree) (s inp v : Values) → IsWellSized S → IsWritten S → IsElaborated S F → IsState S s → IsGiven S inp → Cycle S s inp v → IsCycle F (given_of S s inp) (outside_of S inp) (table_of S v) }
+    ensures from_flat { (S : SourceTree) (F : FlatTree) (s inp : Values) (N : List (List ℕ)) → IsWellSized S → IsWritten S → IsElaborated S F → IsState S s → IsGiven S inp → IsCycle F (given_of S s inp) (outside_of S inp) N → Cycle S s inp (values_of S N) }
+    ensures one_table { (S : SourceTree) (F : FlatTree) (s inp : Values) (N : List (List ℕ)) → IsWellSized S → IsWritten S → IsElaborated S F → IsState S s → IsGiven S inp → IsCycle F (given_of S s inp) (outside_of S inp) N → table_of S (values_of S N) ≡ N }
+{
+    flat_uses();
+    one_path();
+    types_suit();
+    well_sized_is_regular();
+    what_numbers_elements();
+}
+
+/// What stands behind a cycle of a source is what stands behind that cycle of its flat design.
+pub fn next_is_flat()
+    ensures to_flat { (S : SourceTree) (F : FlatTree) (s inp v after : Values) → IsWellSized S → IsWritten S → IsElaborated S F → IsState S s → IsGiven S inp → Cycle S s inp v → Next S v after → IsNext F (table_of S v) (state_of S after) }
+    ensures from_flat { (S : SourceTree) (F : FlatTree) (s inp : Values) (N after : List (List ℕ)) → IsWellSized S → IsWritten S → IsElaborated S F → IsState S s → IsGiven S inp → IsCycle F (given_of S s inp) (outside_of S inp) N → IsNext F N after → Next S (values_of S N) (values_of S after) }
+{
+    flat_uses();
+    one_path();
+    types_suit();
+    well_sized_is_regular();
+    what_numbers_elements();
+}
+
+/// The flat design of a well sized source of at most 65,536 signals and instances is well formed.
+pub fn elaborated_is_formed()
+    ensures { (S : SourceTree) (F : FlatTree) → IsWellSized S → IsWritten S → IsElaborated S F → size S ≤ 65536 → IsFormed F }
+{
+    one_clock_port();
+    one_path();
+    types_suit();
+    well_sized_is_regular();
+    what_numbers_elements();
+}
