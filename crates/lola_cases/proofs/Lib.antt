@@ -1,6 +1,7 @@
 pub mod Clocks
 pub mod Elements
 pub mod Few
+pub mod InputsFirst
 pub mod Shares
 pub mod OneCase
 pub mod SameCycles

@@ -52,6 +52,33 @@ widths elements = map (λ (e : FreeElement). e.width) elements
 abbrev pub free_widths : FlatTree → List ℕ
 free_widths F = widths (free_elements F)
 
+-- of these, what is free of inputs and pads, and what is free of registers
+abbrev pub if_input : SigKind → List FreeElement → List FreeElement
+if_input Input free = free
+if_input Pad free = free
+if_input Register free = []
+if_input Wire free = []
+
+abbrev pub if_register : SigKind → List FreeElement → List FreeElement
+if_register Input free = []
+if_register Pad free = []
+if_register Register free = free
+if_register Wire free = []
+
+abbrev pub inputs_from : FlatTree → ℕ → List SignalTree → List FreeElement
+inputs_from F n [] = []
+inputs_from F n (s ∷ signals) = if_input s.kind (free_of F n s) ++ inputs_from F (n + 1) signals
+
+abbrev pub registers_from : FlatTree → ℕ → List SignalTree → List FreeElement
+registers_from F n [] = []
+registers_from F n (s ∷ signals) = if_register s.kind (free_of F n s) ++ registers_from F (n + 1) signals
+
+abbrev pub input_elements : FlatTree → List FreeElement
+input_elements F = inputs_from F 0 F.signals
+
+abbrev pub register_elements : FlatTree → List FreeElement
+register_elements F = registers_from F 0 F.signals
+
 -- a path is printed as its names with a dot between two
 abbrev pub dotted_behind : List (List ℕ) → List ℕ
 dotted_behind [] = []

@@ -116,10 +116,9 @@ pub fn behind(alloc: Global, flat: &Flat, numbers: &[u128]) -> Result<Cycle, Mem
     ensures next { IfOk result (λ made. IsNext (flat_tree flat.now) made.signals.items made.state.items) }
 {
     let CaseBits { given, outside } = case_bits(alloc, flat, numbers)?;
-    let signals = signal_bits(alloc, flat, given, outside.as_slice())?;
-    let state = state_bits(alloc, flat, signals.as_slice())?;
-    Ok(Cycle {
-        signals: table_numbers(alloc, signals.as_slice())?,
-        state: table_numbers(alloc, state.as_slice())?,
-    })
+    let bits = signal_bits(alloc, flat, given, outside.as_slice())?;
+    let next = state_bits(alloc, flat, bits.as_slice())?;
+    let signals = table_numbers(alloc, bits.as_slice())?;
+    let state = table_numbers(alloc, next.as_slice())?;
+    Ok(Cycle { signals, state })
 }

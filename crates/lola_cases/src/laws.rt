@@ -1,10 +1,10 @@
-ghost use Rattle.std.specs.Prelude.{◌≤◌, ◌<◌, ◌^◌, ◌↔◌, ℕ, List};
+ghost use Rattle.std.specs.Prelude.{◌≡◌, ◌++◌, ◌≤◌, ◌<◌, ◌^◌, ◌↔◌, ℕ, List};
 ghost use Rattle.lola_flat.specs.Tree.{FlatTree};
 ghost use Rattle.lola_flat.specs.Value.{sum_of, joined_all};
 ghost use Rattle.lola_flat.specs.Formed.{IsFormed};
 ghost use Rattle.lola_flat.specs.Cycle.{AreGiven, AreOutside, IsCycle};
 ghost use Rattle.lola_eval.specs.OneCycle.{HasOneCycle};
-ghost use Rattle.lola_cases.specs.Free.{free_widths};
+ghost use Rattle.lola_cases.specs.Free.{free_elements, free_widths, input_elements, register_elements};
 ghost use Rattle.lola_cases.specs.Cases.{AreWithin, IsCase, given_of, outside_of, GiveSame, HasOneCase};
 ghost use Rattle.lola_cases.specs.Counting.{ComesBefore, IsCounted, IsMet};
 
@@ -14,6 +14,11 @@ use lola_flat::hangs_on_reads;
 /// A well formed design has at most 128 times 65,536 free bits.
 pub fn free_bits_are_few()
     ensures { (F : FlatTree) → IsFormed F → sum_of (free_widths F) ≤ 8388608 }
+{}
+
+/// In a well formed design all that is free of inputs and pads comes before what is free of registers.
+pub fn inputs_come_first()
+    ensures { (F : FlatTree) → IsFormed F → free_elements F ≡ input_elements F ++ register_elements F }
 {}
 
 /// What a case gives is what a cycle of the design is given.
