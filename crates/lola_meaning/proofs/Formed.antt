@@ -97,16 +97,16 @@ module _ (S : SourceTree) (is_regular : IsRegular S) (typed : AreTyped S) (numbe
   flat_signal_at x there = get_map (flat_signal S) (signals S) (numbers_of S x.path) x (at_signal S once x there)
 
   -- what is read: vectors but the clock, arrays that are registers, and outside values of pads
-  abbrev ReadsVector : ℕ → Type 0
+  abbrev pub ReadsVector : ℕ → Type 0
   ReadsVector n = (y : Signal) × IsIn y (signals S) × (y.kind ≢ clock) × IsVector y.type × (n ≡ numbers_of S y.path)
 
-  abbrev ReadsArray : ℕ → Type 0
+  abbrev pub ReadsArray : ℕ → Type 0
   ReadsArray n = (y : Signal) × IsSignal S register y × IsArray y.type × (n ≡ numbers_of S y.path)
 
-  abbrev ReadsPad : ℕ → Type 0
+  abbrev pub ReadsPad : ℕ → Type 0
   ReadsPad n = (y : Signal) × IsSignal S pad y × (n ≡ numbers_of S y.path)
 
-  abbrev IsReadHere : Read → Type 0
+  abbrev pub IsReadHere : Read → Type 0
   IsReadHere (vector_of n) = ReadsVector n
   IsReadHere (array_of n) = ReadsArray n
   IsReadHere (outside_of n) = ReadsPad n
@@ -129,7 +129,7 @@ module _ (S : SourceTree) (is_regular : IsRegular S) (typed : AreTyped S) (numbe
       (λ r there. let x = has.vectors r there in (x.signal, x.there, x.no_clock, x.vector, ap (numbers_of S) (sym x.path_is)))
       (λ a there. let x = has.arrays a.0 (to_map (λ (b : Ref × Tree). b.0) a (elements_in e) there) in (x.signal, x.there, x.array, ap (numbers_of S) (sym x.path_is)))
 
-  right_reads : (w : ℕ) (r : Right) → RightHasWidth S w r → AllByRecursion IsReadHere (reads (flat_right (numbers_of S) r))
+  pub right_reads : (w : ℕ) (r : Right) → RightHasWidth S w r → AllByRecursion IsReadHere (reads (flat_right (numbers_of S) r))
   right_reads w (expression m p e) has = all_weaker IsInnerRead IsReadHere inner_here (reads (translated (names_of m) (seen_from (numbers_of S) p) e)) (expression_reads m p e has.0)
   right_reads w (copied other) has = ((has.signal, has.there, has.no_clock, has.vector, ap (numbers_of S) (sym has.path_is)), tt)
   right_reads w (driven m p drive release io) has =

@@ -18,3 +18,5 @@ pub mod Sizing
 pub mod ArgumentsTyped
 pub mod StatementsTyped
 pub mod AllTyped
+pub mod Given
+pub mod ReadBack
