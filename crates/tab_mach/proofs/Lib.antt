@@ -1,4 +1,13 @@
 mod Digits
 mod Elements
+mod Kept
+mod Outcomes
 mod Means
+mod Patterns
+mod Phases
+mod Rows
 mod Runs
+mod Sets
+mod Sound
+mod Steps
+mod Suited

@@ -1,6 +1,6 @@
 -- What is made of the vectors of the parts of an expression is the vector of the whole.
-use Rattle.std.proofs.Common.{◌≡◌, ℕ, zero, suc, ◌+◌, ◌*◌, ◌^◌, ◌<◌, ◌≤◌, Bool, true, false, List, Option, Some, None, refl, arith, ap, sym, ◌∙◌, mul_assoc, inl, inr, cond, length}
-use Rattle.std.specs.Prelude.{nat_eq, nat_lt, nat_le, ◌&&◌, if◌then◌else◌, bytes_eq, codes}
+use Rattle.std.proofs.Common.{◌≡◌, ℕ, zero, suc, ◌+◌, ◌*◌, ◌^◌, Bool, true, false, List, Option, Some, None, refl, arith, ap, sym, ◌∙◌, mul_assoc, inl, inr, cond, length}
+use Rattle.std.specs.Prelude.{nat_eq, if◌then◌else◌, bytes_eq, codes}
 use Rattle.std.proofs.lemmas.Bool.Decides.{nat_tests}
 use Rattle.std.proofs.lemmas.Bool.{cases_lt}
 use Rattle.std.proofs.lemmas.Nat.{pow-add}
@@ -10,16 +10,15 @@ use Rattle.lola_bits.specs.declared.vector.Bits.{Bits}
 use Rattle.lola_bits.specs.Number.{bit_at, slice_of, joined, inverted, operate}
 use Rattle.lola_tree.specs.declared.named.Ref.{Ref}
 use Rattle.lola_tree.specs.declared.named.Count.{Count}
-use Rattle.lola_tree.specs.declared.expr.Part.{Part}
 use Rattle.tab_mach.specs.Known.{parts_run}
-use Rattle.lola_tree.specs.Tree.{Tree, tree, Parts, no_part, one_part, parts_tree, whole, bit, slice, index, concat, negation, binary, choice}
+use Rattle.lola_tree.specs.Tree.{Tree, Parts, one_part, whole, bit, slice, index, concat, binary}
 use Rattle.lola_tree.specs.Names.{ref_name}
 use Rattle.lola_tree.specs.Width.{place_width, same_width, defined_width, bit_width, slice_width, operator_width, repeated_width, joined_width, checked_width, is_width, width, total_width}
 use Rattle.lola_tree.specs.Value.{or_zero, repeated, value, value_of_parts}
 use Rattle.tab_tree.specs.declared.value.StateValue.{StateValue}
 use Rattle.tab_tree.specs.declared.value.StateValue.TheVariants.{One, Many}
-use Rattle.tab_tree.specs.Names.{vector, vector_by, Form, Names, mapped, form_of, forms_of, scope_by, look, bare_name, numbered, or_else, form_width, form_element, form_place, number_at, first_width, nth_number, table_vector, fixed}
-use Rattle.tab_mach.specs.Vectors.{whole_vector, element_at, bit_taken, slice_taken, negated, operated, both, one_of, chosen, cut_vector, run_by, joined_run, repeated_run, whole_run, IsRun}
+use Rattle.tab_tree.specs.Names.{vector, vector_by, Names, mapped, form_of, forms_of, scope_by, look, bare_name, numbered, or_else, form_width, form_element, form_place, number_at, first_width, nth_number, table_vector, fixed}
+use Rattle.tab_mach.specs.Vectors.{whole_vector, element_at, bit_taken, slice_taken, negated, both, chosen, cut_vector, run_by, joined_run, repeated_run, whole_run, IsRun}
 use Rattle.tab_mach.proofs.Runs.{small_run, large_run, runs_join}
 
 -- the width and the number of an expression, and those of parts

@@ -1,9 +1,8 @@
 -- Bits one behind another.
-use Rattle.std.proofs.Common.{◌≡◌, ℕ, zero, suc, ◌+◌, ◌*◌, ◌^◌, ◌<◌, ◌≤◌, Bool, true, false, Option, Some, None, refl, arith, ap, ap₂, sym, ◌∙◌, inl, inr}
-use Rattle.std.specs.Prelude.{nat_le, cond}
+use Rattle.std.proofs.Common.{◌≡◌, ℕ, suc, ◌+◌, ◌*◌, ◌^◌, ◌<◌, ◌≤◌, true, false, Some, None, refl, arith, ap, sym, ◌∙◌, inl, inr}
+use Rattle.std.specs.Prelude.{nat_le}
 use Rattle.std.proofs.lemmas.Bool.Decides.{nat_tests}
 use Rattle.std.proofs.lemmas.Bool.{cases_lt}
-use Rattle.lola_bits.specs.declared.vector.Bits.{Bits}
 use Rattle.lola_bits.specs.Number.{joined}
 use Rattle.lola_tree.specs.Value.{repeated}
 use Rattle.tab_tree.specs.Names.{vector}

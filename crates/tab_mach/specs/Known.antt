@@ -10,7 +10,7 @@ use Rattle.lola_tree.specs.Width.{total_width}
 use Rattle.lola_tree.specs.Value.{value_of_parts}
 use Rattle.tab_mach.specs.Vectors.{IsValue, run_by}
 use Rattle.tab_tree.specs.Names.{Names, nothing, mapped, look, forms_of, scope_by, number_at}
-use Rattle.tab_tree.specs.Step.{first_of, state_value, Words}
+use Rattle.tab_tree.specs.Step.{first_of, state_value}
 use Rattle.tab_mach.specs.declared.known.Given.{Given}
 use Rattle.tab_mach.specs.declared.known.Meaning.{Meaning}
 use Rattle.tab_mach.specs.declared.known.Meaning.TheVariants.{Vector, Array}
@@ -34,13 +34,17 @@ abbrev pub value_of : Meaning → StateValue
 value_of (Vector x) = One x
 value_of (Array xs) = Many xs.now
 
+-- a state, or else a field
+abbrev pub base_value : Known → List ℕ → Option StateValue
+base_value k name = first_of (state_value (map state_tree k.states.now) k.arch.now name) (last_value k.fields.now name None)
+
 abbrev pub names_of : Known → Names StateValue
 names_of k = record {
   word = Some (One k.word);
   count = mapped One k.count;
   loaded = λ j. mapped One (slot k.loaded.now j);
   turned = λ j. mapped One (slot k.turned.now j);
-  named = λ name. last_value k.lets.items name (first_of (state_value (map state_tree k.states.now) k.arch.now name) (last_value k.fields.now name None));
+  named = λ name. last_value k.lets.items name (base_value k name);
   register = nothing;
 }
 

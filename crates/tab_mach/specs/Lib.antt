@@ -1,2 +1,5 @@
+pub mod Begun
 pub mod Known
+pub mod Outcome
+pub mod Sound
 pub mod Vectors

@@ -1,6 +1,6 @@
 -- What operators make of vectors where there are any: none where a width doesn't suit.
 use Rattle.lola_tree.specs.Value.{repeated}
-use Rattle.std.specs.Prelude.{◌≡◌, ℕ, ◌+◌, ◌^◌, ◌<◌, ◌≤◌, true, cond, nat_eq, nat_le, List, length, Option, Some, None, IfSome}
+use Rattle.std.specs.Prelude.{◌≡◌, ℕ, ◌+◌, ◌^◌, ◌<◌, ◌≤◌, cond, nat_eq, nat_le, length, Option, Some, None, IfSome}
 use Rattle.std.specs.List.{AllByRecursion}
 use Rattle.lola_bits.specs.declared.op.Op.{Op}
 use Rattle.lola_bits.specs.declared.vector.Bits.{Bits}

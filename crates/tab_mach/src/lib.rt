@@ -8,6 +8,15 @@
 
 mod evaluate;
 mod known;
+mod laws;
+mod pattern;
+mod phase;
+mod scope;
+mod states;
+mod stepping;
 mod vectors;
+mod words;
 
+pub use laws::{one_class, one_outcome, suited_can_step};
+pub use stepping::{Arch, StepError, Stepped, step};
 pub use tab_tree::{Access, Answer};

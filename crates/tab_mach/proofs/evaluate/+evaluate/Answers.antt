@@ -1,11 +1,11 @@
 use Rattle.std.proofs.Common.{◌≡◌, ◌+◌, drop, ap, ap₂, sym, ◌∙◌, refl, arith}
-use Rattle.std.proofs.lemmas.List.{drop_more, drop_all}
+use Rattle.std.proofs.lemmas.List.{drop_more}
 use Rattle.lola_tree.specs.Tree.{tree, parts_tree, concat, one_part}
 use Rattle.lola_tree.proofs.Parts.{concat_tree}
 use Rattle.tab_tree.specs.Names.{table_vector, look, fixed}
 use Rattle.tab_mach.specs.Known.{names_of, parts_run}
 use Rattle.tab_mach.specs.Vectors.{joined_run, repeated_run, whole_run, element_at}
-use Rattle.tab_mach.proofs.Means.{bit_means, slice_means, index_means, both_means, concat_means, part_means, before_parts, behind_parts, runs_of_three}
+use Rattle.tab_mach.proofs.Means.{bit_means, slice_means, index_means, both_means, concat_means, part_means, runs_of_three}
 use Rattle.tab_mach.proofs.evaluate.+evaluate.Goals as goal
 
 pub evaluate-returns-in-Bit-clause-value : goal.evaluate-returns-in-Bit-clause-value

@@ -1,4 +1,4 @@
-use Rattle.std.proofs.Common.{◌≡◌, ap, arith}
+use Rattle.std.proofs.Common.{ap, arith}
 use Rattle.tab_tree.specs.Names.{vector}
 use Rattle.tab_mach.proofs.Elements.{number_is, behind_end}
 use Rattle.tab_mach.proofs.vectors.element.Goals as goal

@@ -1,4 +1,4 @@
-use Rattle.std.proofs.Common.{◌≡◌, ◌*◌, ◌≤◌, Some}
+use Rattle.std.proofs.Common.{◌≡◌, ◌*◌, Some}
 use Rattle.lola_tree.specs.Value.{repeated}
 use Rattle.tab_mach.specs.Vectors.{AreVectors, run_by}
 use Rattle.tab_mach.proofs.vectors.times_over.Given as goal

@@ -1,0 +1,4 @@
+mod Left
+mod Listed
+mod Made
+mod Subjects
