@@ -6,6 +6,7 @@ pub mod Shares
 pub mod OneCase
 pub mod SameCycles
 pub mod TableSteps
+pub mod Values
 pub mod Vectors
 pub mod PlainCycles
 pub mod Orders

@@ -1,7 +1,7 @@
 -- What a case gives is what a cycle is given, and each such is given by exactly one case.
 use Rattle.std.proofs.Common.{◌≡◌, ℕ, zero, suc, ◌<◌, ◌^◌, List, [], ◌∷◌, ◌++◌, length, take, drop, get_or, Some, refl, sym, ◌∙◌, ap, ap₂, subst, inl, inr, arith}
 use Rattle.std.specs.Prelude.{slice_get}
-use Rattle.std.proofs.lemmas.List.{take-append-drop, take_at}
+use Rattle.std.proofs.lemmas.List.{take-append-drop}
 use Rattle.std.proofs.lemmas.Nat.{pow_pos}
 use Rattle.lola_bits.proofs.All.{at_any_place}
 use Rattle.lola_bits.proofs.Options.{some_same, nothing}
@@ -13,7 +13,7 @@ use Rattle.lola_cases.specs.Free.{free_count}
 use Rattle.lola_cases.specs.Cases.{AreWithin, IsCase, elements_in, outside_in, given_from, outside_from, given_of, outside_of, GiveSameTo, HasOneCase}
 use Rattle.lola_cases.proofs.Clocks.{none_of_clock, all_of_input, all_of_register, one_of_pad, none_of_wire, clock_or_not}
 use Rattle.lola_cases.proofs.Elements.{widths_from, widths_are}
-use Rattle.lola_cases.proofs.Shares.{parted, joined, empty, share_at, given_long}
+use Rattle.lola_cases.proofs.Shares.{parted, joined, empty, first_share, share_at, given_long}
 
 module _ (F : FlatTree) where
   -- what a case gives
@@ -76,16 +76,6 @@ module _ (F : FlatTree) where
   part_same Pad elements outside = refl
   part_same Wire elements outside = tt
 
-  -- the first share of all, and those behind it
-  first_share : (s : SignalTree) (share rest : List ℕ) → length share ≡ free_count F s → (take (free_count F s) (share ++ rest) ≡ share) × (drop (free_count F s) (share ++ rest) ≡ rest)
-  first_share s share rest long = (take_at share rest (free_count F s) long, dropped share rest (free_count F s) long)
-    where
-      dropped : (xs ys : List ℕ) (n : ℕ) → length xs ≡ n → drop n (xs ++ ys) ≡ ys
-      dropped [] ys zero long = refl
-      dropped [] ys (suc n) long = absurd (omega arith)
-      dropped (x ∷ xs) ys zero long = absurd (omega arith)
-      dropped (x ∷ xs) ys (suc n) long = dropped xs ys n (omega arith)
-
   abbrev GivesSame : List SignalTree → (ℕ → List ℕ) → (ℕ → ℕ) → List ℕ → Type 0
   GivesSame signals given outside numbers =
       (n : ℕ) (s : SignalTree) → slice_get signals n ≡ Some s → GiveSameTo s.kind (given n) (get_or (given_from F signals numbers) n []) (outside n) (get_or (outside_from F signals numbers) n 0)
@@ -94,12 +84,12 @@ module _ (F : FlatTree) where
   collected_same [] given outside shares n s is = nothing s is
   collected_same (t ∷ signals) given outside shares zero s is =
       let rest : List ℕ = collected signals (λ n. given (suc n)) (λ n. outside (suc n)) in
-      let first = first_share t (part t.kind (given 0) (outside 0)) rest (shares 0 t refl).long in
+      let first = first_share (free_count F t) (part t.kind (given 0) (outside 0)) rest (shares 0 t refl).long in
       subst (λ (u : SignalTree). GiveSameTo u.kind (given 0) (elements_in t.kind (take (free_count F t) (part t.kind (given 0) (outside 0) ++ rest))) (outside 0) (outside_in t.kind (take (free_count F t) (part t.kind (given 0) (outside 0) ++ rest)))) (some_same t s is)
       (subst (λ (share : List ℕ). GiveSameTo t.kind (given 0) (elements_in t.kind share) (outside 0) (outside_in t.kind share)) (sym first.0) (part_same t.kind (given 0) (outside 0)))
   collected_same (t ∷ signals) given outside shares (suc n) s is =
       let rest : List ℕ = collected signals (λ n. given (suc n)) (λ n. outside (suc n)) in
-      let first = first_share t (part t.kind (given 0) (outside 0)) rest (shares 0 t refl).long in
+      let first = first_share (free_count F t) (part t.kind (given 0) (outside 0)) rest (shares 0 t refl).long in
       subst (λ (numbers : List ℕ). GiveSameTo s.kind (given (suc n)) (get_or (given_from F signals numbers) n []) (outside (suc n)) (get_or (outside_from F signals numbers) n 0)) (sym first.1)
       (collected_same signals (λ m. given (suc m)) (λ m. outside (suc m)) (λ m u at. shares (suc m) u at) n s is)
 

@@ -2,6 +2,7 @@
 use Rattle.std.proofs.Common.{◌≡◌, ℕ, zero, suc, ◌<◌, ◌^◌, List, [], ◌∷◌, ◌++◌, length, take, drop, replicate, get_or, Some, refl, ap, subst, arith}
 use Rattle.std.specs.Prelude.{slice_get}
 use Rattle.std.specs.List.{AllByRecursion}
+use Rattle.std.proofs.lemmas.List.{take_at, drop_at}
 use Rattle.lola_bits.proofs.Options.{some_same, nothing}
 use Rattle.lola_flat.specs.Tree.{SignalTree, FlatTree}
 use Rattle.lola_flat.specs.Cycle.{AreBelow}
@@ -31,6 +32,10 @@ joined zero w ws [] ns long below within = within
 joined zero w ws (n ∷ share) ns long below within = absurd (omega arith)
 joined (suc c) w ws [] ns long below within = absurd (omega arith)
 joined (suc c) w ws (n ∷ share) ns long below within = (below.0, joined c w ws share ns (omega arith) below.1 within)
+
+-- the first share of all, and what stands behind it
+pub first_share : (c : ℕ) (share rest : List ℕ) → length share ≡ c → (take c (share ++ rest) ≡ share) × (drop c (share ++ rest) ≡ rest)
+first_share c share rest long = (take_at share rest c long, drop_at share rest c long)
 
 -- a signal's share of the numbers, and what it is given of that
 pub record HasShare (F : FlatTree) (signals : List SignalTree) (numbers : List ℕ) (n : ℕ) (s : SignalTree) : Type 0 where

@@ -1,12 +1,13 @@
 -- A case of a flat design: a number for all that a cycle leaves free. What it gives to the design, and that every table
 -- which can be given is that of exactly one case.
-use Rattle.std.specs.Prelude.{◌≡◌, ℕ, ◌<◌, ◌^◌, List, [], ◌∷◌, take, drop, get_or}
+use Rattle.std.specs.Prelude.{◌≡◌, ℕ, ◌<◌, ◌^◌, List, [], ◌∷◌, map, take, drop, get_or}
 use Rattle.lola_bits.specs.Lists.{AreEach}
 use Rattle.lola_flat.specs.declared.design.SigKind.{SigKind}
 use Rattle.lola_flat.specs.declared.design.SigKind.TheVariants.{Input, Pad, Wire, Register}
 use Rattle.lola_flat.specs.Tree.{SignalTree, FlatTree}
 use Rattle.lola_flat.specs.Signals.{IsSignal}
-use Rattle.lola_cases.specs.Free.{free_count, free_widths}
+use Rattle.lola_cases.specs.declared.free.FreeElement.{FreeElement}
+use Rattle.lola_cases.specs.Free.{free_count, free_of, free_elements, free_widths}
 
 -- a number for each width, below 2 to it
 abbrev pub AreWithin : List ℕ → List ℕ → Type 0
@@ -62,3 +63,8 @@ pub record HasOneCase (F : FlatTree) (given : List (List ℕ)) (outside : List �
   pub is_case : IsCase F numbers
   pub same : GiveSame F given outside (given_of F numbers) (outside_of F numbers)
   pub only : (others : List ℕ) → IsCase F others → GiveSame F given outside (given_of F others) (outside_of F others) → others ≡ numbers
+
+-- where each free element has a value, the case of these values gives each signal those of its own elements
+pub record GivesValues (F : FlatTree) (value : FreeElement → ℕ) : Type 0 where
+  pub given : (n : ℕ) (s : SignalTree) → IsSignal F n s → get_or (given_of F (map value (free_elements F))) n [] ≡ elements_in s.kind (map value (free_of F n s))
+  pub outside : (n : ℕ) (s : SignalTree) → IsSignal F n s → get_or (outside_of F (map value (free_elements F))) n 0 ≡ outside_in s.kind (map value (free_of F n s))

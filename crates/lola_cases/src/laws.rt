@@ -1,11 +1,13 @@
-ghost use Rattle.std.specs.Prelude.{◌≡◌, ◌++◌, ◌≤◌, ◌<◌, ◌^◌, ◌↔◌, ℕ, List};
+ghost use Rattle.std.specs.Prelude.{◌≡◌, ◌++◌, ◌≤◌, ◌<◌, ◌^◌, ◌↔◌, ℕ, List, map};
+ghost use Rattle.std.specs.List.{AllByRecursion};
 ghost use Rattle.lola_flat.specs.Tree.{FlatTree};
 ghost use Rattle.lola_flat.specs.Value.{sum_of, joined_all};
 ghost use Rattle.lola_flat.specs.Formed.{IsFormed};
 ghost use Rattle.lola_flat.specs.Cycle.{AreGiven, AreOutside, IsCycle};
 ghost use Rattle.lola_eval.specs.OneCycle.{HasOneCycle};
+ghost use Rattle.lola_cases.specs.declared.free.FreeElement.{FreeElement as Element};
 ghost use Rattle.lola_cases.specs.Free.{free_elements, free_widths, input_elements, register_elements};
-ghost use Rattle.lola_cases.specs.Cases.{AreWithin, IsCase, given_of, outside_of, GiveSame, HasOneCase};
+ghost use Rattle.lola_cases.specs.Cases.{AreWithin, IsCase, given_of, outside_of, GiveSame, HasOneCase, GivesValues};
 ghost use Rattle.lola_cases.specs.Counting.{ComesBefore, IsCounted, IsMet};
 
 use lola_eval::one_cycle;
@@ -38,6 +40,12 @@ pub fn each_has_one_cycle()
 /// Whatever a cycle can be given is what exactly one case gives.
 pub fn each_is_one_case()
     ensures { (F : FlatTree) (given : List (List ℕ)) (outside : List ℕ) → IsFormed F → AreGiven F given → AreOutside F outside → HasOneCase F given outside }
+{}
+
+/// Values below 2 to the widths of all that is free are a case, which gives each signal the values of its elements.
+pub fn values_are_given()
+    ensures case { (F : FlatTree) (value : Element → ℕ) → AllByRecursion (λ (e : Element). value e < 2 ^ e.width) (free_elements F) → IsCase F (map value (free_elements F)) }
+    ensures given { (F : FlatTree) (value : Element → ℕ) → GivesValues F value }
 {}
 
 /// What gives the same has the same cycles.

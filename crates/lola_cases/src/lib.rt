@@ -19,7 +19,7 @@ pub use evaluation::{Cycle, behind};
 pub use free::{FreeElement, free_elements, free_widths};
 pub use laws::{
     cases_are_given, counting, each_has_one_cycle, each_is_one_case, free_bits_are_few,
-    inputs_come_first, same_cycles,
+    inputs_come_first, same_cycles, values_are_given,
 };
 pub use names::{element_name, element_names};
 pub use tables::{CaseBits, case_bits};
