@@ -1,5 +1,5 @@
 -- A well sized design has the types that the laws of meaning ask.
-use Rattle.std.proofs.Common.{◌≡◌, ◌≢◌, ℕ, true, false, reverse, Option, Some, None, refl, sym, ◌∙◌, ap, subst, ◌⊎◌, inl, inr}
+use Rattle.std.proofs.Common.{◌≡◌, ◌≢◌, ℕ, reverse, Option, Some, None, refl, sym, ◌∙◌, ap, subst, ◌⊎◌, inl, inr}
 use Rattle.std.specs.Prelude.{flat_map}
 use Rattle.std.specs.List.{AllByRecursion}
 use Rattle.lola_bits.specs.Lists.{IsIn}
@@ -13,7 +13,6 @@ use Rattle.lola_tree.specs.design.Signals.{Kind, clock, input, pad, wire, regist
 use Rattle.lola_tree.specs.design.Equations.{Right, expression, copied, driven, Equation, caller_equations, stmt_equations, place_equations, equations, Update, stmt_updates, place_updates, updates}
 use Rattle.lola_tree.specs.design.Chains.{flat_left, flat_equation, flat_equations}
 use Rattle.lola_width.specs.Sized.{clock_in}
-use Rattle.lola_design.specs.Paths.{has_equation}
 use Rattle.lola_design.specs.Regular.{IsRegular}
 use Rattle.lola_design.proofs.Graphs.{numbered}
 use Rattle.lola_design.proofs.Derived.{fixed, are_equations, equation_wires}
@@ -30,18 +29,11 @@ use Rattle.lola_values.proofs.Arguments.{arguments_equal}
 use Rattle.lola_values.proofs.PadWidths.{IsEqualBy, pads_stand}
 use Rattle.lola_meaning.specs.Typed.{HasWidth, RightHasWidth, DrivesKind, AreTyped}
 use Rattle.lola_meaning.proofs.Widths.{signals_have}
-use Rattle.lola_meaning.proofs.Cycles.{no_register}
+use Rattle.lola_meaning.proofs.KindTests.{no_pad, wired_no_register}
 use Rattle.lola_meaning.proofs.PadsDriven.{IsDriven, pad_driven}
 use Rattle.lola_meaning.proofs.Sizing.{LeftHas, FlatHas}
 use Rattle.lola_meaning.proofs.ArgumentsTyped.{arguments_have}
 use Rattle.lola_meaning.proofs.StatementsTyped.{SetsBy, updates_set, equations_have}
-
-abbrev NotPad : Kind → Type 0
-NotPad pad = ⊥
-NotPad clock = Unit {0}
-NotPad input = Unit {0}
-NotPad wire = Unit {0}
-NotPad register = Unit {0}
 
 module _ (numbers : NumbersAll) (S : SourceTree) (is_regular : IsRegular S) (once : PathsOnce S) (clean : AllClean (reverse S.modules)) (written : AllByRecursion IsWrittenModule (reverse S.modules)) (clocked : AreClocked (reverse S.modules)) where
   -- any values will do
@@ -64,14 +56,7 @@ module _ (numbers : NumbersAll) (S : SourceTree) (is_regular : IsRegular S) (onc
 
   -- what has an equation is no register
   wired : (e : Equation) → IsIn e (equations S) → (y : Signal) → IsIn y (signals S) → y.path ≡ flat_left e.left e.right → y.kind ≢ register
-  wired e said y there same = by_kind y.kind (equation_wires S is_regular zero zero (flat_equation e) (to_map flat_equation e (equations S) said) y there same)
-    where
-      by_kind : (k : Kind) → has_equation k ≡ true → k ≢ register
-      by_kind clock is = absurd (let f : false ≡ true = is in cc)
-      by_kind input is = absurd (let f : false ≡ true = is in cc)
-      by_kind register is = absurd (let f : false ≡ true = is in cc)
-      by_kind pad is = no_register pad (λ none. none)
-      by_kind wire is = no_register wire (λ none. none)
+  wired e said y there same = wired_no_register y.kind (equation_wires S is_regular zero zero (flat_equation e) (to_map flat_equation e (equations S) said) y there same)
 
   equation_has : (e : Equation) → IsIn e (equations S) → FlatHas S e
   equation_has e is =
@@ -140,10 +125,10 @@ module _ (numbers : NumbersAll) (S : SourceTree) (is_regular : IsRegular S) (onc
 
   is_pad : (k : Kind) → (k ≡ pad) ⊎ (k ≢ pad)
   is_pad pad = inl refl
-  is_pad clock = inr (λ e. subst NotPad e tt)
-  is_pad input = inr (λ e. subst NotPad e tt)
-  is_pad wire = inr (λ e. subst NotPad e tt)
-  is_pad register = inr (λ e. subst NotPad e tt)
+  is_pad clock = inr (no_pad clock (λ none. none))
+  is_pad input = inr (no_pad input (λ none. none))
+  is_pad wire = inr (no_pad wire (λ none. none))
+  is_pad register = inr (no_pad register (λ none. none))
 
   drives : (e : Equation) → IsIn e (flat_equations S) → (x : Signal) → IsIn x (signals S) → x.path ≡ e.left → (w : ℕ) → RightHasWidth S w e.right → DrivesKind x.kind e.right
   drives e said x there same w wide = elim (is_pad x.kind) [

@@ -26,7 +26,7 @@ use Rattle.lola_tree.specs.Signals.{is_inward}
 use Rattle.lola_tree.specs.Width.{vector_width, checked_width}
 use Rattle.lola_tree.specs.design.Calls.{args_of, bare_name}
 use Rattle.lola_tree.specs.design.Clocks.{passed_clocks, kind_clocks, clocks_in, clock_ports}
-use Rattle.lola_tree.specs.design.Signals.{Kind, clock, input, pad, wire, register, Signal, root_kind, root_port, root_ports, shown_port, instance_port, instance_ports, kind_signals, local_signals, signals_at, signals_inside, root_signals, signals, signal_paths}
+use Rattle.lola_tree.specs.design.Signals.{Kind, clock, wire, register, Signal, root_kind, root_port, root_ports, shown_port, instance_port, instance_ports, kind_signals, local_signals, signals_at, signals_inside, root_signals, signals, signal_paths}
 use Rattle.lola_tree.specs.design.Cycle.{IsSignal}
 use Rattle.lola_width.specs.declared.interface.Pin.{Pin}
 use Rattle.lola_width.specs.Interface.{Seen, or_first, instance_pins, listed, first_pin, later_pins, is_one, is_bit, is_clock_port, clock_named, bare_clock, arg_clock, args_clock, stmt_clock, body_clock}
@@ -41,21 +41,8 @@ use Rattle.lola_regular.proofs.Clean.{IsClean, AllClean}
 use Rattle.lola_regular.proofs.Ways.{clock_port_is}
 use Rattle.lola_values.proofs.Widths.{equal_is}
 use Rattle.lola_meaning.specs.Typed.{ClockFits}
+use Rattle.lola_meaning.proofs.KindTests.{IsClockKind, IsStoredKind}
 use Rattle.lola_meaning.proofs.RootPorts.{IsOuter, roots_are, locals_inside, all_inside}
-
-abbrev IsClockKind : Kind → Type 0
-IsClockKind clock = Unit {0}
-IsClockKind input = ⊥
-IsClockKind pad = ⊥
-IsClockKind wire = ⊥
-IsClockKind register = ⊥
-
-abbrev IsStoredKind : Kind → Type 0
-IsStoredKind clock = ⊥
-IsStoredKind input = ⊥
-IsStoredKind pad = ⊥
-IsStoredKind wire = ⊥
-IsStoredKind register = Unit {0}
 
 -- the name that is a clock may be one
 abbrev MayBe : Names → Option (List ℕ) → Type 0

@@ -38,48 +38,8 @@ use Rattle.lola_meaning.specs.Typed.{AreTyped}
 use Rattle.lola_meaning.proofs.Numbers.{get_is, values_long}
 use Rattle.lola_meaning.proofs.Tables.{one, at_signal, number_is, at_table, table_has, has_own, right_means, vector_elements}
 use Rattle.lola_meaning.proofs.Lookups.{equation_at, same_elements, from_elements}
+use Rattle.lola_meaning.proofs.KindTests.{register_no_clock, input_no_clock, wired_no_register, wired_no_clock}
 use Rattle.lola_meaning.proofs.Along.{along}
-
--- kinds that differ
-abbrev IsClockKind : Kind → Type 0
-IsClockKind clock = Unit {0}
-IsClockKind input = ⊥
-IsClockKind pad = ⊥
-IsClockKind wire = ⊥
-IsClockKind register = ⊥
-
-abbrev IsStoredKind : Kind → Type 0
-IsStoredKind clock = ⊥
-IsStoredKind input = ⊥
-IsStoredKind pad = ⊥
-IsStoredKind wire = ⊥
-IsStoredKind register = Unit {0}
-
-pub no_clock : (k : Kind) → (IsClockKind k → ⊥) → k ≢ clock
-no_clock k other e = other (subst IsClockKind (sym e) tt)
-
-pub no_register : (k : Kind) → (IsStoredKind k → ⊥) → k ≢ register
-no_register k other e = other (subst IsStoredKind (sym e) tt)
-
-pub register_no_clock : (k : Kind) → k ≡ register → k ≢ clock
-register_no_clock k e = no_clock k (λ is. subst IsClockKind e is)
-
-pub input_no_clock : (k : Kind) → k ≡ input → k ≢ clock
-input_no_clock k e = no_clock k (λ is. subst IsClockKind e is)
-
-wired_no_register : (k : Kind) → has_equation k ≡ true → k ≢ register
-wired_no_register clock e = absurd (let f : false ≡ true = e in cc)
-wired_no_register input e = absurd (let f : false ≡ true = e in cc)
-wired_no_register register e = absurd (let f : false ≡ true = e in cc)
-wired_no_register pad e = no_register pad (λ is. is)
-wired_no_register wire e = no_register wire (λ is. is)
-
-wired_no_clock : (k : Kind) → has_equation k ≡ true → k ≢ clock
-wired_no_clock clock e = absurd (let f : false ≡ true = e in cc)
-wired_no_clock input e = no_clock input (λ is. is)
-wired_no_clock register e = no_clock register (λ is. is)
-wired_no_clock pad e = no_clock pad (λ is. is)
-wired_no_clock wire e = no_clock wire (λ is. is)
 
 -- a value of a type, from its elements
 pub typed_value : (names : Names) (type : Shape) (x : ℕ → ℕ) (n : ℕ) → IsVector type → x 0 ≡ n → FitsType names type n → Suits names type x

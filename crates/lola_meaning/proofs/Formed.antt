@@ -10,7 +10,7 @@ use Rattle.lola_bits.specs.Lists.{IsIn, AreDistinct}
 use Rattle.lola_bits.proofs.All.{of_all, all_append, all_weaker}
 use Rattle.lola_bits.proofs.Lists.{to_map, from_map, in_front, in_back, but_last}
 use Rattle.lola_bits.proofs.Options.{some_same}
-use Rattle.lola_bits.proofs.Places.{get_in, get_map, from_get}
+use Rattle.lola_bits.proofs.Places.{get_in, from_get}
 use Rattle.lola_flat.specs.Numbers.{first_numbers}
 use Rattle.lola_flat.specs.declared.design.SigKind.TheVariants.{Input, Pad, Wire, Register}
 use Rattle.lola_flat.specs.Tree.{ExprTree, from_outside, apply, no_expr, one_expr, SignalTree, FlatTree}
@@ -20,7 +20,7 @@ use Rattle.lola_flat.specs.Formed.{HasClock, ReadFits, NotOutside, IsPadEquation
 use Rattle.lola_tree.specs.declared.named.Ref.{Ref}
 use Rattle.lola_tree.specs.declared.named.Shape.{Shape}
 use Rattle.lola_tree.specs.declared.named.Shape.TheVariants.{Vector, Array}
-use Rattle.lola_tree.specs.Names.{Names, names_of, first_name}
+use Rattle.lola_tree.specs.Names.{Names, names_of}
 use Rattle.lola_tree.specs.Tree.{Tree, ActualTree, ModuleTree, SourceTree}
 use Rattle.lola_tree.specs.Value.{Path}
 use Rattle.lola_tree.specs.design.Signals.{Kind, clock, input, pad, wire, register, Signal, signals, signal_paths, elements, size}
@@ -38,13 +38,13 @@ use Rattle.lola_unfold.specs.Flat.{flat_kind, flat_width, flat_count, flat_right
 use Rattle.lola_unfold.proofs.Sums.{sum_cons}
 use Rattle.lola_meaning.specs.Typed.{IsTyped, RightHasWidth, DrivesKind, SetsWidth, HasWidth, AreTyped, ClockFits}
 use Rattle.lola_meaning.proofs.Numbers.{numbers_long}
-use Rattle.lola_meaning.proofs.Tables.{TypedVector, typed_vector, typed_array, at_signal, number_is, expression_translates, right_translates}
+use Rattle.lola_meaning.proofs.Tables.{TypedVector, typed_vector, typed_array, at_signal, number_is, flat_at, count_is, expression_translates, right_translates}
 use Rattle.lola_meaning.proofs.Lookups.{path_counted, equation_at, update_at}
-use Rattle.lola_meaning.proofs.Cycles.{no_clock, no_register, register_no_clock}
+use Rattle.lola_meaning.proofs.KindTests.{no_clock, no_register, register_no_clock}
 use Rattle.lola_meaning.proofs.ReadInside.{IsInner, inner}
 use Rattle.lola_meaning.proofs.ClockNames.{clock_there, clock_from}
 use Rattle.lola_meaning.proofs.Ordered.{is_ordered}
-use Rattle.lola_meaning.proofs.RootPorts.{IsOuter, port_or_not, ports_few}
+use Rattle.lola_meaning.proofs.RootPorts.{IsOuter, port_or_not, clock_path, ports_few}
 
 -- the first numbers are those below
 first_below : (k n : ℕ) → IsIn n (first_numbers k) → n < k
@@ -92,9 +92,6 @@ module _ (S : SourceTree) (is_regular : IsRegular S) (typed : AreTyped S) (numbe
 
   abbrev ports : ℕ
   ports = port_count (reverse S.modules)
-
-  flat_signal_at : (x : Signal) → IsIn x (signals S) → IsFlatSignal F (numbers_of S x.path) (flat_signal S x)
-  flat_signal_at x there = get_map (flat_signal S) (signals S) (numbers_of S x.path) x (at_signal S once x there)
 
   -- what is read: vectors but the clock, arrays that are registers, and outside values of pads
   abbrev pub ReadsVector : ℕ → Type 0
@@ -181,16 +178,16 @@ module _ (S : SourceTree) (is_regular : IsRegular S) (typed : AreTyped S) (numbe
 
   read_fits : (r : Read) → IsReadHere r → ReadFits F r
   read_fits (vector_of n) y =
-      (flat_signal S y.0, (subst (λ (k : ℕ). IsFlatSignal F k (flat_signal S y.0)) (sym y.4) (flat_signal_at y.0 y.1), none_by y.0 y.1 y.3 y.0.kind refl))
+      (flat_signal S y.0, (subst (λ (k : ℕ). IsFlatSignal F k (flat_signal S y.0)) (sym y.4) (flat_at S once y.0 y.1), none_by y.0 y.1 y.3 y.0.kind refl))
   read_fits (array_of n) y = (
     flat_signal S y.0,
     (
-      subst (λ (k : ℕ). IsFlatSignal F k (flat_signal S y.0)) (sym y.3) (flat_signal_at y.0 y.1.0),
+      subst (λ (k : ℕ). IsFlatSignal F k (flat_signal S y.0)) (sym y.3) (flat_at S once y.0 y.1.0),
       subst (λ (k : Kind). IsSome (place_by k (right_of (flat_equations S) y.0.path) (update_of (updates S) y.0.path) (numbers_of S))) (sym y.1.1) (some_by y.0 y.1 y.2),
     ),
   )
   read_fits (outside_of n) y =
-      (flat_signal S y.0, (subst (λ (k : ℕ). IsFlatSignal F k (flat_signal S y.0)) (sym y.2) (flat_signal_at y.0 y.1.0), ap flat_kind y.1.1))
+      (flat_signal S y.0, (subst (λ (k : ℕ). IsFlatSignal F k (flat_signal S y.0)) (sym y.2) (flat_at S once y.0 y.1.0), ap flat_kind y.1.1))
 
   -- where a signal stands: what only the root's ports are is a port, and no register is
   named_at : (n : ℕ) (x : Signal) → slice_get (signals S) n ≡ Some x → x.path ≢ []
@@ -240,11 +237,11 @@ module _ (S : SourceTree) (is_regular : IsRegular S) (typed : AreTyped S) (numbe
       record {
         number = n;
         signal = flat_signal S y.0;
-        is = flat_signal_at y.0 y.1;
+        is = flat_at S once y.0 y.1;
         port = outer_port n y.0 at (subst IsOuter (sym y.2) tt);
         kind = ap flat_kind y.2;
         width = type.width;
-        path = own_path n y.0 at y.2 y.3;
+        path = clock_path S n y.0 at y.2 name y.3;
         unused = λ k s at_k e among read. no_use y.0 y.1 y.2 e (all k s at_k e among) read;
       }
     where
@@ -253,12 +250,6 @@ module _ (S : SourceTree) (is_regular : IsRegular S) (typed : AreTyped S) (numbe
         where
           clock_not : clock ≡ register → ⊥
           clock_not e = subst IsOuter e tt
-
-      own_path : (n : ℕ) (y : Signal) → slice_get (signals S) n ≡ Some y → y.kind ≡ clock → first_name y.path ≡ name → y.path ≡ name ∷ []
-      own_path n y at kind first = elim (port_or_not S n y at) [
-        | inl root ↦ root.1.path_is ∙ ap (λ (k : List ℕ). k ∷ []) (sym (ap first_name root.1.path_is) ∙ first)
-        | inr other ↦ absurd (other.1.inner (subst IsOuter (sym kind) tt))
-      ]
 
       no_use : (y : Signal) → IsIn y (signals S) → y.kind ≡ clock → (e : ExprTree) → AllByRecursion IsReadHere (reads e) → IsIn (numbers_of S y.path) (map number_read (reads e)) → ⊥
       no_use y there kind e all read =
@@ -525,13 +516,9 @@ module _ (S : SourceTree) (is_regular : IsRegular S) (typed : AreTyped S) (numbe
       here_by f.0 (get_in (signals S) n f.0 f.1) f.0.kind refl e (subst (λ (t : SignalTree). IsIn e (expressions t)) (sym f.2) among)
 
   -- the elements are those of the source
-  count_is : (names : Names) (type : Shape) → HasWidth names type → flat_count names type ≡ elements names type
-  count_is names (Vector c) has = refl
-  count_is names (Array k c) has = let t = typed_array numbers names (Array k c) has.0 has.1 tt has.2 has.3 in t.count ∙ sym t.elements_are
-
   counts_are : (xs : List Signal) → ((x : Signal) → IsIn x xs → HasWidth x.names x.type) → sum_of (map (λ (s : SignalTree). s.count) (map (flat_signal S) xs)) ≡ sum (map (λ (x : Signal). elements x.names x.type) xs)
   counts_are [] all = refl
-  counts_are (x ∷ xs) all = ap₂ (λ (a b : ℕ). a + b) (count_is x.names x.type (all x (inl refl))) (counts_are xs (λ y there. all y (inr there))) ∙ sym (sum_cons (elements x.names x.type) (map (λ (y : Signal). elements y.names y.type) xs))
+  counts_are (x ∷ xs) all = ap₂ (λ (a b : ℕ). a + b) (count_is numbers x.names x.type (all x (inl refl))) (counts_are xs (λ y there. all y (inr there))) ∙ sym (sum_cons (elements x.names x.type) (map (λ (y : Signal). elements y.names y.type) xs))
 
   pub formed : size S ≤ 65536 → IsFormed F
   formed small = record {

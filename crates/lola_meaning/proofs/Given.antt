@@ -1,6 +1,6 @@
 -- What a state and an input give to a flat design is what its cycles ask, and anything that they may be given is so.
-use Rattle.std.proofs.Common.{◌≡◌, ◌≢◌, ℕ, zero, suc, ◌^◌, ◌<◌, ◌≤◌, true, false, List, [], ◌∷◌, ◌++◌, map, length, get_or, Option, Some, None, refl, sym, ◌∙◌, ap, subst, inl, inr, arith}
-use Rattle.std.specs.Prelude.{slice_get, IsSome}
+use Rattle.std.proofs.Common.{◌≡◌, ◌≢◌, ℕ, zero, suc, ◌^◌, ◌<◌, ◌≤◌, true, false, List, [], ◌∷◌, map, length, get_or, Option, Some, None, refl, sym, ◌∙◌, ap, subst, inl, inr, arith}
+use Rattle.std.specs.Prelude.{IsSome}
 use Rattle.std.specs.List.{AllByRecursion}
 use Rattle.std.proofs.lemmas.Bool.{cases_Bool, cond-true, cond-false}
 use Rattle.std.proofs.lemmas.List.{length-map}
@@ -13,7 +13,7 @@ use Rattle.lola_flat.specs.declared.design.SigKind.TheVariants.{Input, Pad, Wire
 use Rattle.lola_flat.specs.Tree.{SignalTree, FlatTree}
 use Rattle.lola_flat.specs.Value.{env, Read, vector_of, array_of, outside_of as read_outside, reads}
 use Rattle.lola_flat.specs.Value as flat_value
-use Rattle.lola_flat.specs.Signals.{IsSignal as IsFlatSignal, widths_of, HaveSame, IsClock}
+use Rattle.lola_flat.specs.Signals.{widths_of, HaveSame, IsClock}
 use Rattle.lola_flat.specs.Cycle.{IsGivenTo, AreGiven, AreOutside, IsValueOf, IsCycle}
 use Rattle.lola_flat.proofs.SameReads.{value_same}
 use Rattle.lola_order.specs.Graph.{IsOrder}
@@ -34,14 +34,14 @@ use Rattle.lola_design.proofs.Fits.{same_suits}
 use Rattle.lola_design.proofs.Found.{path_counts}
 use Rattle.lola_design.proofs.OneSolution.{path_is}
 use Rattle.lola_values.proofs.Known.{NumbersAll}
-use Rattle.lola_unfold.specs.Flat.{flat_kind, flat_width, flat_count, flat_right, flat_rights, equation_by, update_of, flat_signal, flat_graph, flat_design, numbers_of, clock_name}
+use Rattle.lola_unfold.specs.Flat.{flat_kind, flat_width, flat_right, flat_rights, equation_by, update_of, flat_signal, flat_graph, flat_design, numbers_of, clock_name}
 use Rattle.lola_meaning.specs.Tables.{elements_of, given_by, given_of, outside_by, outside_of, values_of, kind_at, entered_by, input_of}
 use Rattle.lola_meaning.specs.Typed.{HasWidth, AreTyped, ClockFits}
-use Rattle.lola_meaning.proofs.Numbers.{get_is, number_later, values_long, read_back, same_values}
-use Rattle.lola_meaning.proofs.Tables.{typed_vector, typed_array, one, at_signal, number_is, at_table}
+use Rattle.lola_meaning.proofs.Numbers.{get_is, map_last, number_later, values_long, read_back, same_values}
+use Rattle.lola_meaning.proofs.Tables.{typed_vector, typed_array, count_is, one, at_signal, number_is, flat_at, at_table}
 use Rattle.lola_meaning.proofs.Lookups.{equation_at}
-use Rattle.lola_meaning.proofs.Cycles.{no_register, input_no_clock}
-use Rattle.lola_meaning.proofs.RootPorts.{IsOuter, port_or_not}
+use Rattle.lola_meaning.proofs.KindTests.{no_register, input_no_clock}
+use Rattle.lola_meaning.proofs.RootPorts.{clock_path}
 use Rattle.lola_meaning.proofs.ClockNames.{clock_there, clock_from}
 use Rattle.lola_meaning.proofs.Formed.{IsReadHere, right_reads}
 
@@ -51,10 +51,6 @@ map_below f limit zero each = tt
 map_below f limit (suc n) each =
     subst (AllByRecursion (λ x. x < limit)) (sym (map_last f (first_numbers n) n))
     (all_append (λ x. x < limit) (map f (first_numbers n)) (f n ∷ []) (map_below f limit n (λ k less. each k (omega arith))) (each n (omega arith), tt))
-  where
-    map_last : (f : ℕ → ℕ) (xs : List ℕ) (y : ℕ) → map f (xs ++ y ∷ []) ≡ map f xs ++ f y ∷ []
-    map_last f [] y = refl
-    map_last f (x ∷ xs) y = ap (λ (l : List ℕ). f x ∷ l) (map_last f xs y)
 
 module _ (numbers : NumbersAll) where
   suits_below : (names : Names) (type : Shape) (x : ℕ → ℕ) → HasWidth names type → Suits names type x → AllByRecursion (λ n. n < 2 ^ flat_width names type) (map x (first_numbers (elements names type)))
@@ -65,10 +61,6 @@ module _ (numbers : NumbersAll) where
       let t = typed_array numbers names (Array n c) has.0 has.1 tt has.2 has.3 in
       map_below x (2 ^ flat_width names (Array n c)) (elements names (Array n c))
       (λ k less. subst (λ (w : ℕ). x k < 2 ^ w) (sym t.width) (subst (λ (o : Option ℕ). FitsIn o (x k)) has.2 (suits k less)))
-
-  count_is : (names : Names) (type : Shape) → HasWidth names type → elements names type ≡ flat_count names type
-  count_is names (Vector c) has = refl
-  count_is names (Array n c) has = let t = typed_array numbers names (Array n c) has.0 has.1 tt has.2 has.3 in t.elements_are ∙ sym t.count
 
   number_below : (l : List ℕ) (limit k : ℕ) → AllByRecursion (λ x. x < limit) l → k < length l → number_in l k < limit
   number_below [] limit k all inside = absurd (omega arith)
@@ -105,12 +97,6 @@ module _ (S : SourceTree) (is_regular : IsRegular S) (typed : AreTyped S) (numbe
   F = flat_design S order
 
   -- the clock of the flat design is the clock of the source, and no other signal is
-  own_path : (n : ℕ) (x : Signal) → slice_get (signals S) n ≡ Some x → x.kind ≡ clock → (name : List ℕ) → first_name x.path ≡ name → x.path ≡ name ∷ []
-  own_path n x at kind name first = elim (port_or_not S n x at) [
-    | inl root ↦ root.1.path_is ∙ ap (λ (k : List ℕ). k ∷ []) (sym (ap first_name root.1.path_is) ∙ first)
-    | inr other ↦ absurd (other.1.inner (subst IsOuter (sym kind) tt))
-  ]
-
   some_name : (o : Option (List ℕ)) → IsSome o → (name : List ℕ) × (o ≡ Some name)
   some_name None some = absurd (let e : false ≡ true = some in cc)
   some_name (Some name) some = (name, refl)
@@ -120,13 +106,13 @@ module _ (S : SourceTree) (is_regular : IsRegular S) (typed : AreTyped S) (numbe
       let name = some_name (clock_name (signals S)) (clock_there (signals S) x there kind) in
       let y = clock_from (signals S) name.0 name.1 in
       let same : y.0 ≡ x = clocked.one y.0 x (y.1, y.2) (there, kind) in
-      (name.0, (name.1, own_path (numbers_of S x.path) x (at_signal S once x there) kind name.0 (ap (λ (z : Signal). first_name z.path) (sym same) ∙ y.3)))
+      (name.0, (name.1, clock_path S (numbers_of S x.path) x (at_signal S once x there) kind name.0 (ap (λ (z : Signal). first_name z.path) (sym same) ∙ y.3)))
 
   not_clock : (x : Signal) → IsIn x (signals S) → x.kind ≢ clock → IsClock F (flat_signal S x) → ⊥
   not_clock x there other c =
       let y = clock_from (signals S) c.0 c.1.0 in
       let at = at_signal S once y.0 y.1 in
-      let path : y.0.path ≡ c.0 ∷ [] = own_path (numbers_of S y.0.path) y.0 at y.2 c.0 y.3 in
+      let path : y.0.path ≡ c.0 ∷ [] = clock_path S (numbers_of S y.0.path) y.0 at y.2 c.0 y.3 in
       other (ap (λ (z : Signal). z.kind) (one S once x y.0 there y.1 (c.1.1 ∙ sym path)) ∙ y.2)
 
   -- what a state and an input give
@@ -135,12 +121,12 @@ module _ (S : SourceTree) (is_regular : IsRegular S) (typed : AreTyped S) (numbe
     by_kind x there clock kind = (tt, (λ c. refl, λ other. absurd (other (is_clock x there kind))))
     by_kind x there input kind = (
       suits_below numbers x.names x.type (inp x.path) (typed.signals_have x there) (given.inputs x (there, kind)),
-      (λ c. absurd (not_clock x there (input_no_clock x.kind kind) c), λ other. values_long (inp x.path) (elements x.names x.type) ∙ count_is numbers x.names x.type (typed.signals_have x there)),
+      (λ c. absurd (not_clock x there (input_no_clock x.kind kind) c), λ other. values_long (inp x.path) (elements x.names x.type) ∙ sym (count_is numbers x.names x.type (typed.signals_have x there))),
     )
     by_kind x there pad kind = tt
     by_kind x there wire kind = tt
     by_kind x there register kind = record {
-      count = values_long (s x.path) (elements x.names x.type) ∙ count_is numbers x.names x.type (typed.signals_have x there);
+      count = values_long (s x.path) (elements x.names x.type) ∙ sym (count_is numbers x.names x.type (typed.signals_have x there));
       below = suits_below numbers x.names x.type (s x.path) (typed.signals_have x there) (state x (there, kind));
     }
 
@@ -193,20 +179,17 @@ module _ (S : SourceTree) (is_regular : IsRegular S) (typed : AreTyped S) (numbe
     abbrev its : Signal → List ℕ
     its x = get_or given (numbers_of S x.path) []
 
-    flat_at : (x : Signal) → IsIn x (signals S) → IsFlatSignal F (numbers_of S x.path) (flat_signal S x)
-    flat_at x there = get_map (flat_signal S) (signals S) (numbers_of S x.path) x (at_signal S once x there)
-
     given_to : (x : Signal) → IsIn x (signals S) → (k : Kind) → x.kind ≡ k → IsGivenTo F (flat_signal S x) (flat_kind k) (its x)
-    given_to x there k kind = subst (λ (j : Kind). IsGivenTo F (flat_signal S x) (flat_kind j) (its x)) kind (are.each (numbers_of S x.path) (flat_signal S x) (flat_at x there))
+    given_to x there k kind = subst (λ (j : Kind). IsGivenTo F (flat_signal S x) (flat_kind j) (its x)) kind (are.each (numbers_of S x.path) (flat_signal S x) (flat_at S once x there))
 
     clock_empty : (x : Signal) → IsIn x (signals S) → x.kind ≡ clock → its x ≡ []
     clock_empty x there kind = (given_to x there clock kind).1.0 (is_clock x there kind)
 
     input_long : (x : Signal) → IsIn x (signals S) → x.kind ≡ input → length (its x) ≡ elements x.names x.type
-    input_long x there kind = (given_to x there input kind).1.1 (not_clock x there (input_no_clock x.kind kind)) ∙ sym (count_is numbers x.names x.type (typed.signals_have x there))
+    input_long x there kind = (given_to x there input kind).1.1 (not_clock x there (input_no_clock x.kind kind)) ∙ count_is numbers x.names x.type (typed.signals_have x there)
 
     register_long : (x : Signal) → IsIn x (signals S) → x.kind ≡ register → length (its x) ≡ elements x.names x.type
-    register_long x there kind = (given_to x there register kind).count ∙ sym (count_is numbers x.names x.type (typed.signals_have x there))
+    register_long x there kind = (given_to x there register kind).count ∙ count_is numbers x.names x.type (typed.signals_have x there)
 
     kind_here : (x : Signal) → IsIn x (signals S) → kind_at (signals S) x.path ≡ x.kind
     kind_here x there = kind_is (signals S) x (once x.path) there
@@ -228,7 +211,7 @@ module _ (S : SourceTree) (is_regular : IsRegular S) (typed : AreTyped S) (numbe
           (below_suits numbers x.names x.type (its x) (typed.signals_have x there.0) (input_long x there.0 there.1) (given_to x there.0 input there.1).0);
       pads = λ x there.
           pad_suits x.names x.type (inp x.path) (typed.signals_have x there.0) (is_regular.vectors x there.0 (λ e. no_register pad (λ none. none) (sym there.1 ∙ e)))
-          (subst (λ (k : ℕ). k < 2 ^ flat_width x.names x.type) (sym (pad_same x there.0 there.1 0)) (outer.each (numbers_of S x.path) (flat_signal S x) (flat_at x there.0) (ap flat_kind there.1)));
+          (subst (λ (k : ℕ). k < 2 ^ flat_width x.names x.type) (sym (pad_same x there.0 there.1 0)) (outer.each (numbers_of S x.path) (flat_signal S x) (flat_at S once x there.0) (ap flat_kind there.1)));
     }
       where
         pad_suits : (names : Names) (type : Shape) (x : ℕ → ℕ) → HasWidth names type → IsVector type → x 0 < 2 ^ flat_width names type → Suits names type x

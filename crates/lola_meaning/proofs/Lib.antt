@@ -1,4 +1,5 @@
 pub mod Numbers
+pub mod KindTests
 pub mod Expressions
 pub mod Tables
 pub mod Lookups

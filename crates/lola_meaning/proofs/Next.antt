@@ -37,7 +37,8 @@ use Rattle.lola_meaning.specs.Typed.{IsTyped, HasWidth, SetsWidth, AreTyped}
 use Rattle.lola_meaning.proofs.Numbers.{get_is, value_at, values_long, same_numbers, with_long, with_at, number_past}
 use Rattle.lola_meaning.proofs.Tables.{at_signal, number_is, expression_means}
 use Rattle.lola_meaning.proofs.Lookups.{update_at, that_update}
-use Rattle.lola_meaning.proofs.Cycles.{reads_suit, register_no_clock}
+use Rattle.lola_meaning.proofs.KindTests.{register_no_clock}
+use Rattle.lola_meaning.proofs.Cycles.{reads_suit}
 
 -- other places are as before
 other_place : (n k : ℕ) → k < n → nat_eq n k ≡ false

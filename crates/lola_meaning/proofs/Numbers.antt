@@ -129,7 +129,7 @@ numbers_long (suc n) = length_more (first_numbers n) n ∙ ap suc (numbers_long 
 pub values_long : (f : ℕ → ℕ) (n : ℕ) → length (map f (first_numbers n)) ≡ n
 values_long f n = length-map (first_numbers n) f ∙ numbers_long n
 
-map_last : (f : ℕ → ℕ) (xs : List ℕ) (y : ℕ) → map f (xs ++ y ∷ []) ≡ map f xs ++ f y ∷ []
+pub map_last : (f : ℕ → ℕ) (xs : List ℕ) (y : ℕ) → map f (xs ++ y ∷ []) ≡ map f xs ++ f y ∷ []
 map_last f [] y = refl
 map_last f (x ∷ xs) y = ap (λ (l : List ℕ). f x ∷ l) (map_last f xs y)
 

@@ -19,7 +19,7 @@ use Rattle.lola_tree.specs.Value.{Path}
 use Rattle.lola_tree.specs.design.Calls.{args_of, bare_name}
 use Rattle.lola_tree.specs.design.Clocks.{clocks_in, clock_ports}
 use Rattle.lola_tree.specs.design.Places.{Pads, pad_of, way_pad, own_pads, passed_pads, Caller, Place, kind_places, local_places, places_inside, root_places, places}
-use Rattle.lola_tree.specs.design.Signals.{Kind, clock, input, pad, wire, register, Signal, root_kind, root_port, root_ports, local_signals, signals_inside, root_signals}
+use Rattle.lola_tree.specs.design.Signals.{Kind, pad, Signal, root_kind, root_port, root_ports, local_signals, signals_inside, root_signals}
 use Rattle.lola_tree.specs.design.Equations.{Right, expression, copied, driven, Equation, caller_equations, stmt_equations, place_equations, equations}
 use Rattle.lola_tree.specs.design.Cycle.{IsSignal}
 use Rattle.lola_tree.specs.design.Chains.{flat_equation, flat_equations}
@@ -30,6 +30,7 @@ use Rattle.lola_design.proofs.Counts.{count_append}
 use Rattle.lola_design.proofs.Found.{counted_in}
 use Rattle.lola_design.proofs.Pads.{entered, entry}
 use Rattle.lola_meaning.proofs.Lookups.{path_counted}
+use Rattle.lola_meaning.proofs.KindTests.{IsPadKind}
 use Rattle.lola_meaning.proofs.RootPorts.{IsOuter, locals_inside, all_inside}
 
 -- the names of the pads of a called module, and of the root
@@ -124,13 +125,6 @@ own_in (r ∷ ports) q (inr later) both = behind r.way (own_in ports q later bot
     behind Inward is = is
     behind Outward is = is
     behind Both is = inr is
-
-abbrev IsPadKind : Kind → Type 0
-IsPadKind clock = ⊥
-IsPadKind input = ⊥
-IsPadKind pad = Unit {0}
-IsPadKind wire = ⊥
-IsPadKind register = ⊥
 
 is_both : (w : Way) (b : Bool) → IsPadKind (root_kind w b) → w ≡ Both
 is_both Inward true none = absurd none

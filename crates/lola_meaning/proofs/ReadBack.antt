@@ -10,7 +10,7 @@ use Rattle.lola_unfold.specs.Flat.{numbers_of}
 use Rattle.lola_meaning.specs.Tables.{elements_of, shown_by, table_of, stored_by, state_of, values_of}
 use Rattle.lola_meaning.proofs.Tables.{at_table, table_has}
 use Rattle.lola_meaning.proofs.Lookups.{same_elements, from_elements}
-use Rattle.lola_meaning.proofs.Cycles.{no_clock}
+use Rattle.lola_meaning.proofs.KindTests.{no_clock}
 
 module _ (S : SourceTree) (once : (x : Path) → count x (signal_paths S) ≤ 1) where
   pub values_back : (v : Values) (x : Signal) → IsIn x (signals S) → x.kind ≢ clock → AreSame x.names x.type (values_of S (table_of S v) x.path) (v x.path)

@@ -13,12 +13,13 @@ use Rattle.lola_tree.specs.declared.module.Port.{Port}
 use Rattle.lola_tree.specs.declared.module.LocalKind.{LocalKind}
 use Rattle.lola_tree.specs.declared.module.LocalKind.TheVariants.{Reg, Var, Inst}
 use Rattle.lola_tree.specs.declared.module.Local.{Local}
-use Rattle.lola_tree.specs.Names.{Names, names_of}
+use Rattle.lola_tree.specs.Names.{Names, names_of, first_name}
 use Rattle.lola_tree.specs.Tree.{ModuleTree, SourceTree}
 use Rattle.lola_tree.specs.Value.{Path}
 use Rattle.lola_tree.specs.design.Clocks.{clocks_in, clock_ports}
 use Rattle.lola_tree.specs.design.Signals.{Kind, clock, input, pad, wire, register, Signal, root_kind, root_port, root_ports, shown_port, instance_port, instance_ports, kind_signals, local_signals, signals_at, signals_inside, root_signals, signals}
 use Rattle.lola_unfold.specs.Flat.{port_count}
+use Rattle.lola_meaning.proofs.KindTests.{no_register}
 
 -- what only the root's ports are
 abbrev pub IsOuter : Kind → Type 0
@@ -88,20 +89,10 @@ all_inside (m ∷ earlier) name p = by_test (bytes_eq m.name name)
     by_test false here later = later
 
 root_no_register : (w : Way) (b : Bool) → root_kind w b ≢ register
-root_no_register w b e = at w b (subst IsIt (sym e) tt)
-  where
-    IsIt : Kind → Type 0
-    IsIt clock = ⊥
-    IsIt input = ⊥
-    IsIt pad = ⊥
-    IsIt wire = ⊥
-    IsIt register = Unit {0}
-
-    at : (w : Way) (b : Bool) → IsIt (root_kind w b) → ⊥
-    at Inward true none = none
-    at Inward false none = none
-    at Outward b none = none
-    at Both b none = none
+root_no_register Inward true = no_register clock (λ none. none)
+root_no_register Inward false = no_register input (λ none. none)
+root_no_register Outward b = no_register wire (λ none. none)
+root_no_register Both b = no_register pad (λ none. none)
 
 pub roots_are : (names : Names) (clocks : List (List ℕ)) (ports : List Port) (x : Signal) → IsIn x (root_ports names clocks ports) → IsRootPort x
 roots_are names clocks ports x there =
@@ -133,6 +124,13 @@ root_parts (m ∷ earlier) n x is =
 
 pub port_or_not : (S : SourceTree) (n : ℕ) (x : Signal) → slice_get (signals S) n ≡ Some x → IsPort (port_count (reverse S.modules)) n x ⊎ IsNoPort (port_count (reverse S.modules)) n x
 port_or_not S n x is = root_parts (reverse S.modules) n x is
+
+-- the clock's path is its name alone
+pub clock_path : (S : SourceTree) (n : ℕ) (x : Signal) → slice_get (signals S) n ≡ Some x → x.kind ≡ clock → (name : List ℕ) → first_name x.path ≡ name → x.path ≡ name ∷ []
+clock_path S n x at kind name first = elim (port_or_not S n x at) [
+  | inl root ↦ root.1.path_is ∙ ap (λ (k : List ℕ). k ∷ []) (sym (ap first_name root.1.path_is) ∙ first)
+  | inr other ↦ absurd (other.1.inner (subst IsOuter (sym kind) tt))
+]
 
 root_few : (ms : List ModuleTree) → port_count ms ≤ length (root_signals ms)
 root_few [] = omega arith

@@ -32,7 +32,8 @@ use Rattle.lola_values.proofs.Known.{NumbersAll}
 use Rattle.lola_unfold.specs.Translated.{small, translated}
 use Rattle.lola_unfold.specs.Flat.{flat_width, flat_count, flat_signal, flat_right, flat_design, numbers_of, seen_from}
 use Rattle.lola_meaning.specs.Tables.{elements_of, shown_by, table_of, values_of, Has}
-use Rattle.lola_meaning.specs.Typed.{IsVectorRead, IsArrayRead, IsTyped, IsPadOf, RightHasWidth}
+use Rattle.lola_meaning.specs.Typed.{HasWidth, IsVectorRead, IsArrayRead, IsTyped, IsPadOf, RightHasWidth}
+use Rattle.lola_meaning.proofs.KindTests.{register_no_clock}
 use Rattle.lola_meaning.proofs.Numbers.{small_is, get_is, get_inside, value_at, read_back}
 use Rattle.lola_meaning.proofs.Expressions.{counted_is, Translates, IsVectorAt, IsArrayAt, signal_translates, translates, means}
 
@@ -84,6 +85,10 @@ pub array_elements : NumbersAll → (names : Names) (type : Shape) (k : ℕ) →
 array_elements numbers names (Vector c) k is f = absurd is
 array_elements numbers names (Array n c) k is f = (place_few numbers (count_number names n) k f).2
 
+pub count_is : NumbersAll → (names : Names) (type : Shape) → HasWidth names type → flat_count names type ≡ elements names type
+count_is numbers names (Vector c) has = refl
+count_is numbers names (Array n c) has = let t = typed_array numbers names (Array n c) has.0 has.1 tt has.2 has.3 in t.count ∙ sym t.elements_are
+
 -- a vector has one element
 pub vector_elements : (v : Values) (path : Path) (names : Names) (type : Shape) → IsVector type → map (v path) (first_numbers (elements names type)) ≡ v path 0 ∷ []
 vector_elements v path names (Vector c) is = refl
@@ -105,6 +110,10 @@ module _ (S : SourceTree) (once : (x : Path) → count x (signal_paths S) ≤ 1)
   pub number_is : (n : ℕ) (x : Signal) → slice_get (signals S) n ≡ Some x → numbers_of S x.path ≡ n
   number_is n x at =
       one_place (signal_paths S) x.path (once x.path) (numbers_of S x.path) n (path_at x (get_in (signals S) n x at)) (get_map (λ (y : Signal). y.path) (signals S) n x at)
+
+  -- and so does its flat one
+  pub flat_at : (x : Signal) → IsIn x (signals S) → slice_get (map (flat_signal S) (signals S)) (numbers_of S x.path) ≡ Some (flat_signal S x)
+  flat_at x there = get_map (flat_signal S) (signals S) (numbers_of S x.path) x (at_signal x there)
 
   -- an item of a table of the signals
   pub at_table : {X : Type 0} (f : Signal → X) (z : X) (x : Signal) → IsIn x (signals S) → get_or (map f (signals S)) (numbers_of S x.path) z ≡ f x
@@ -137,9 +146,6 @@ module _ (S : SourceTree) (once : (x : Path) → count x (signal_paths S) ≤ 1)
 
     abbrev its_widths : SignalTree → List ℕ
     its_widths s = replicate s.count s.width
-
-    flat_at : (x : Signal) → IsIn x (signals S) → slice_get F.signals (numbers_of S x.path) ≡ Some (flat_signal S x)
-    flat_at x there = get_map (flat_signal S) (signals S) (numbers_of S x.path) x (at_signal x there)
 
     widths_at : (x : Signal) → IsIn x (signals S) → flat_value.elements W (numbers_of S x.path) ≡ replicate (flat_count x.names x.type) (flat_width x.names x.type)
     widths_at x there =
@@ -191,23 +197,13 @@ module _ (S : SourceTree) (once : (x : Path) → count x (signal_paths S) ≤ 1)
         vector_read r x =
             subst (λ (y : Path). get_or N (numbers_of S y) [] ≡ v y 0 ∷ []) x.path_is (has x.signal x.there x.no_clock ∙ vector_elements v x.signal.path x.signal.names x.signal.type x.vector)
 
-        no_register_clock : (x : Signal) → x.kind ≡ register → x.kind ≢ clock
-        no_register_clock x is e = subst is_one (sym e ∙ is) tt
-          where
-            is_one : Kind → Type 0
-            is_one clock = Unit {0}
-            is_one input = ⊥
-            is_one pad = ⊥
-            is_one wire = ⊥
-            is_one register = ⊥
-
         array_typed : (r : Ref) (x : IsArrayRead S m p r) (k : ℕ) → (scope_of m).place r ≡ Some k → elements x.signal.names x.signal.type ≡ 2 ^ k
         array_typed r x k place = array_elements numbers x.signal.names x.signal.type k x.array (sym x.places ∙ place)
 
         array_read : (r : Ref) → IsArrayRead S m p r → (k : ℕ) → (scope_of m).place r ≡ Some k → (i : ℕ) → i < 2 ^ k → number_in (get_or N (numbers_of S (p ++ r.path)) []) i ≡ v (p ++ r.path) i
         array_read r x k place i inside =
             subst (λ (y : Path). number_in (get_or N (numbers_of S y) []) i ≡ v y i) x.path_is
-            (ap (λ (l : List ℕ). number_in l i) (has x.signal x.there.0 (no_register_clock x.signal x.there.1))
+            (ap (λ (l : List ℕ). number_in l i) (has x.signal x.there.0 (register_no_clock x.signal.kind x.there.1))
             ∙ value_at (v x.signal.path) (elements x.signal.names x.signal.type) i (subst (λ (n : ℕ). i < n) (sym (array_typed r x k place)) inside))
 
         places_within : (e : Tree) → IsTyped S m p e → AreWithin S m p v e → (a : Ref × Tree) → IsIn a (elements_in e) → (k : ℕ) → (scope_of m).place a.0 ≡ Some k → value (scope_of m) a.1 (names_at p v) < 2 ^ k
