@@ -1,10 +1,11 @@
 -- A table that fits a design, with values that suit it, can make steps.
-use Rattle.std.proofs.Common.{ℕ, ◌≤◌, List, [], ◌∷◌, Option, Some, None, subst, sym, arith}
+use Rattle.std.proofs.Common.{◌≡◌, ℕ, ◌≤◌, List, [], ◌∷◌, Option, Some, None, subst, sym, arith}
 use Rattle.std.specs.List.{AllByRecursion}
 use Rattle.lola_bits.specs.declared.vector.Bits.{Bits}
 use Rattle.lola_bits.specs.Lists.{AreEach}
 use Rattle.lola_bits.specs.Vector.{FitsWidth}
 use Rattle.lola_bits.proofs.All.{all_weaker}
+use Rattle.lola_tree.specs.Tree.{SourceTree}
 use Rattle.tab_tree.specs.declared.value.Answer.{Answer}
 use Rattle.tab_tree.specs.declared.value.StateValue.{StateValue}
 use Rattle.tab_tree.specs.declared.value.StateValue.TheVariants.{One, Many}
@@ -12,7 +13,7 @@ use Rattle.tab_tree.specs.Table.{StateTree, TurnsTree, AccessTree, PhaseTree, In
 use Rattle.tab_tree.specs.Names.{Form, vector_form, array_form, first_width, shape_form}
 use Rattle.tab_tree.specs.Step.{Arch, times_of}
 use Rattle.tab_tree.specs.Fits.{OfInside, SuitsTurns, PhasesShaped}
-use Rattle.tab_tree.specs.Suits.{IsOf, HasForm, SuitsAnswer, IsSuited}
+use Rattle.tab_tree.specs.Suits.{IsOf, HasForm, SuitsRole, SuitsAnswer, IsSuited}
 use Rattle.tab_mach.specs.Vectors.{IsElement, IsValue}
 use Rattle.tab_mach.specs.Outcome.{TurnsAreSmall, AreStates, CanStep}
 
@@ -49,11 +50,19 @@ states [] (a ∷ A) each = absurd each
 states (row ∷ rows) [] each = absurd each
 states (row ∷ rows) (a ∷ A) each = (value_fits (shape_form row.shape) a each.0, states rows A each.1)
 
+-- what a role brings
+role_fits : (S : SourceTree) (role : Option (List ℕ)) (x : Bits) → SuitsRole S role x → FitsWidth x.width x.value
+role_fits S None x suits =
+    let wide : x.width ≡ 1 = suits.0 in
+    let none : x.value ≡ 0 = suits.1 in
+    subst (λ (w : ℕ). FitsWidth w x.value) (sym wide) (record { positive = omega arith; at_most = omega arith; below = omega arith })
+role_fits S (Some port) x suits = suits.fits
+
 pub suited : (T : TableTree) (A : Arch) (i : Bits) (answers : List Answer) → IsSuited T A i answers → CanStep T A i answers
 suited T A i answers is = record {
   small = is.fitting.small;
   turns = all_weaker (λ (c : ClassTree). OfInside (λ b. PhasesShaped T b.phases) c.inside) (λ (c : ClassTree). OfInside (λ b. TurnsAreSmall b.phases) c.inside) (λ c shaped. small_inside T c.inside shaped) T.classes is.fitting.phases.each;
   arch = states T.states A is.arch;
   code = is.code.fits;
-  loaded = all_weaker (SuitsAnswer is.source T) (λ (answer : Answer). FitsWidth answer.loaded.width answer.loaded.value) (λ answer suits. suits.loaded.fits) answers is.each;
+  loaded = all_weaker (SuitsAnswer is.source T) (λ (answer : Answer). FitsWidth answer.loaded.width answer.loaded.value) (λ answer suits. role_fits is.source T.roles.loaded answer.loaded suits.loaded) answers is.each;
 }
