@@ -1,0 +1,11 @@
+mod Based
+mod Basis
+mod Classes
+mod Edge
+mod Forms
+mod Moments
+mod Phases
+mod Rows
+mod Shown
+mod Theorem
+mod Words
