@@ -81,7 +81,7 @@ same_each names (Vector c) x y same = same 0
 same_each names (Array n c) x y same = λ k inside. same k
 
 -- the kind of a path is that of its signal
-kind_is : (xs : List Signal) (x : Signal) → count x.path (map (λ (y : Signal). y.path) xs) ≤ 1 → IsIn x xs → kind_at xs x.path ≡ x.kind
+pub kind_is : (xs : List Signal) (x : Signal) → count x.path (map (λ (y : Signal). y.path) xs) ≤ 1 → IsIn x xs → kind_at xs x.path ≡ x.kind
 kind_is [] x once is = absurd is
 kind_is (y ∷ ys) x once (inl same) =
     cond-true (path_eq y.path x.path) y.kind (kind_at ys x.path) (subst (λ (z : Signal). path_eq z.path x.path ≡ true) same (path_is x.path)) ∙ ap (λ (z : Signal). z.kind) (sym same)
