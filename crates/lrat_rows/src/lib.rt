@@ -1,5 +1,5 @@
-//! Lines of refutations with what becomes of them, worked out by hand from the rule of hints: tests of
-//! `lrat_check`.
+//! Lines of refutations with what becomes of them, worked out by hand from the rule of hints, and texts of
+//! certificates: tests of `lrat_check` and `lrat_text`.
 #![tactic(auto)]
 
 #[cfg(test)]
@@ -12,3 +12,7 @@ mod make;
 mod order;
 #[cfg(test)]
 mod sum;
+#[cfg(test)]
+mod text;
+#[cfg(test)]
+mod whole;

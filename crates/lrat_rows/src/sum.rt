@@ -5,7 +5,7 @@ use std::alloc::Global;
 use std::test::Fail;
 
 /// The gates from 3 to 11 with three clauses each, and that the last one is true.
-fn sum(alloc: Global) -> Result<Checker, Fail> {
+pub(crate) fn sum(alloc: Global) -> Result<Checker, Fail> {
     checker(
         alloc,
         11,

@@ -1,0 +1,6 @@
+pub mod Decimals
+pub mod Parted
+pub mod Parsed
+pub mod Readable
+pub mod Written
+pub mod ComesAgain

@@ -1,0 +1,120 @@
+-- Cutting bytes, and items that are parted by one blank.
+use Rattle.std.proofs.Common.{◌≡◌, ◌≢◌, ℕ, ◌+◌, ◌<◌, Bool, true, false, not, nat_eq, List, [], ◌∷◌, ◌++◌, take, drop, length, get_or, Option, None, Some, refl, sym, ◌∙◌, ap, ap₂, arith, inl, inr, append_assoc}
+use Rattle.std.specs.List.{onto_first, join_with_byte, list_all, AllByRecursion}
+use Rattle.std.proofs.lemmas.Bool.{cases_Bool}
+use Rattle.std.proofs.lemmas.Bool.Decides.{Decides-eqb}
+use Rattle.std.proofs.lemmas.List.{drop_more, take_more}
+use Rattle.std.proofs.lemmas.List.Splits.{join_with_byte-slice_split, slice_split-cons_yes, slice_split-cons_no}
+use Rattle.lola_bits.proofs.Options.{nothing, some_same}
+use Rattle.lrat_text.specs.Cut.{with_front, cut, items_of}
+
+fronts : (xs ys : List ℕ) (o : Option (List ℕ × List ℕ)) → with_front (xs ++ ys) o ≡ with_front xs (with_front ys o)
+fronts xs ys None = refl
+fronts xs ys (Some p) = ap (λ (z : List ℕ). Some (z, p.1)) (append_assoc xs ys p.0)
+
+no_front : (o : Option (List ℕ × List ℕ)) → with_front [] o ≡ o
+no_front None = refl
+no_front (Some p) = refl
+
+-- a byte that isn't the one is passed
+pub cut_past : (byte : ℕ) (bytes : List ℕ) (i d : ℕ) → i < length bytes → get_or bytes i d ≢ byte → cut byte bytes ≡ with_front (take i bytes) (cut byte (drop i bytes))
+    → cut byte bytes ≡ with_front (take (i + 1) bytes) (cut byte (drop (i + 1) bytes))
+cut_past byte bytes i d h other inv =
+    let b = get_or bytes i d in
+    let f : nat_eq b byte ≡ false = elim (cases_Bool (nat_eq b byte)) [ inl t ↦ absurd (other ((Decides-eqb b byte).0 t)) | inr g ↦ g ] in
+    let one : cut byte (b ∷ drop (i + 1) bytes) ≡ with_front (b ∷ []) (cut byte (drop (i + 1) bytes)) = rw f refl in
+    inv ∙ ap (λ (xs : List ℕ). with_front (take i bytes) (cut byte xs)) (drop_more bytes i d h) ∙ ap (with_front (take i bytes)) one
+    ∙ sym (fronts (take i bytes) (b ∷ []) (cut byte (drop (i + 1) bytes))) ∙ ap (λ (xs : List ℕ). with_front xs (cut byte (drop (i + 1) bytes))) (sym (take_more bytes i d h))
+
+-- at the byte itself the front is whole
+pub cut_here : (byte : ℕ) (bytes front rest behind : List ℕ) (i d : ℕ) → i < length bytes → get_or bytes i d ≡ byte → cut byte bytes ≡ with_front (take i bytes) (cut byte (drop i bytes))
+    → front ≡ take i bytes → behind ≡ drop 1 (drop i bytes) → Some (front, behind) ≡ cut byte bytes
+cut_here byte bytes front rest behind i d h here inv f b =
+    let e = drop_more bytes i d h in
+    let t : nat_eq (get_or bytes i d) byte ≡ true = (Decides-eqb _ _).1 here in
+    let one : cut byte (get_or bytes i d ∷ drop (i + 1) bytes) ≡ Some ([], drop (i + 1) bytes) = rw t refl in
+    let later : behind ≡ drop (i + 1) bytes = b ∙ ap (drop 1) e in
+    sym (inv ∙ ap (λ (xs : List ℕ). with_front (take i bytes) (cut byte xs)) e ∙ ap (with_front (take i bytes)) one
+    ∙ ap₂ (λ (x y : List ℕ). Some (x, y)) (append_nil (take i bytes) ∙ sym f) (sym later))
+  where
+    append_nil : (xs : List ℕ) → xs ++ [] ≡ xs
+    append_nil [] = refl
+    append_nil (x ∷ xs) = ap (λ (ys : List ℕ). x ∷ ys) (append_nil xs)
+
+pub cut_start : (byte : ℕ) (bytes : List ℕ) → cut byte bytes ≡ with_front (take 0 bytes) (cut byte (drop 0 bytes))
+cut_start byte bytes = sym (no_front (cut byte bytes))
+
+pub cut_end : (byte : ℕ) (bytes : List ℕ) (i : ℕ) → drop i bytes ≡ [] → cut byte bytes ≡ with_front (take i bytes) (cut byte (drop i bytes)) → None ≡ cut byte bytes
+cut_end byte bytes i e inv = sym (inv ∙ ap (λ (xs : List ℕ). with_front (take i bytes) (cut byte xs)) e)
+
+-- items of what is cut at a blank
+abbrev pub items_from : Option (List ℕ × List ℕ) → List ℕ → List (List ℕ)
+items_from None line = line ∷ []
+items_from (Some p) line = p.0 ∷ items_of p.1
+
+onto : (b : ℕ) (bs : List ℕ) (o : Option (List ℕ × List ℕ)) → onto_first b (items_from o bs) ≡ items_from (with_front (b ∷ []) o) (b ∷ bs)
+onto b bs None = refl
+onto b bs (Some p) = refl
+
+pub items_cut : (line : List ℕ) → items_of line ≡ items_from (cut 32 line) line
+items_cut [] = refl
+items_cut (b ∷ bs) = elim (cases_Bool (nat_eq b 32)) [
+  | inl t ↦ let one : cut 32 (b ∷ bs) ≡ Some ([], bs) = rw t refl in
+      slice_split-cons_yes (λ c. nat_eq c 32) b bs t ∙ ap (λ (o : Option (List ℕ × List ℕ)). items_from o (b ∷ bs)) (sym one)
+  | inr f ↦ let one : cut 32 (b ∷ bs) ≡ with_front (b ∷ []) (cut 32 bs) = rw f refl in
+      slice_split-cons_no (λ c. nat_eq c 32) b bs f ∙ ap (onto_first b) (items_cut bs) ∙ onto b bs (cut 32 bs) ∙ ap (λ (o : Option (List ℕ × List ℕ)). items_from o (b ∷ bs)) (sym one)
+]
+
+pub items_last : (line : List ℕ) → None ≡ cut 32 line → items_of line ≡ line ∷ []
+items_last line e = items_cut line ∙ ap (λ (o : Option (List ℕ × List ℕ)). items_from o line) (sym e)
+
+pub items_more : (line front behind : List ℕ) → Some (front, behind) ≡ cut 32 line → items_of line ≡ front ∷ items_of behind
+items_more line front behind e = items_cut line ∙ ap (λ (o : Option (List ℕ × List ℕ)). items_from o line) (sym e)
+
+-- items joined by blanks are found again
+abbrev pub no_blank : List ℕ → Bool
+no_blank item = list_all (λ b. not (nat_eq b 32)) item
+
+no_cut : (x : List ℕ) → no_blank x ≡ true → cut 32 x ≡ None
+no_cut [] e = refl
+no_cut (b ∷ bs) e = elim (cases_Bool (nat_eq b 32)) [
+  | inl t ↦ let q : false ≡ true = rw t at e in absurd (cc)
+  | inr f ↦ rw f (ap (with_front (b ∷ [])) (no_cut bs (rw f at e)))
+]
+
+cut_at : (x rest : List ℕ) → no_blank x ≡ true → cut 32 (x ++ 32 ∷ rest) ≡ Some (x, rest)
+cut_at [] rest e = refl
+cut_at (b ∷ bs) rest e = elim (cases_Bool (nat_eq b 32)) [
+  | inl t ↦ let q : false ≡ true = rw t at e in absurd (cc)
+  | inr f ↦ rw f (ap (with_front (b ∷ [])) (cut_at bs rest (rw f at e)))
+]
+
+pub items_joined : (x : List ℕ) (xs : List (List ℕ)) → AllByRecursion (λ item. no_blank item ≡ true) (x ∷ xs) → items_of (join_with_byte 32 (x ∷ xs)) ≡ x ∷ xs
+items_joined x [] a = items_last x (sym (no_cut x a.0))
+items_joined x (y ∷ ys) a = items_more (x ++ 32 ∷ join_with_byte 32 (y ∷ ys)) x (join_with_byte 32 (y ∷ ys)) (sym (cut_at x (join_with_byte 32 (y ∷ ys)) a.0))
+    ∙ ap (λ (zs : List (List ℕ)). x ∷ zs) (items_joined y ys a.1)
+
+pub joined_items : (line : List ℕ) → join_with_byte 32 (items_of line) ≡ line
+joined_items line = join_with_byte-slice_split 32 line
+
+shorter_by : (b : ℕ) (bs : List ℕ) (o : Option (List ℕ × List ℕ)) (p : List ℕ × List ℕ) → ((q : List ℕ × List ℕ) → o ≡ Some q → length q.1 < length bs) → with_front (b ∷ []) o ≡ Some p
+    → length p.1 < length (b ∷ bs)
+shorter_by b bs None p h e = nothing p e
+shorter_by b bs (Some q) p h e = let l = h q refl in let same : q.1 ≡ p.1 = ap (λ (r : List ℕ × List ℕ). r.1) (some_same (b ∷ q.0, q.1) p e) in
+    let k = ap length same in omega (arith, l, k)
+
+-- what stands behind a cut is shorter
+pub cut_shorter : (byte : ℕ) (bytes : List ℕ) (p : List ℕ × List ℕ) → cut byte bytes ≡ Some p → length p.1 < length bytes
+cut_shorter byte [] p e = nothing p e
+cut_shorter byte (b ∷ bs) p e = elim (cases_Bool (nat_eq b byte)) [
+  | inl t ↦ let same : bs ≡ p.1 = ap (λ (r : List ℕ × List ℕ). r.1) (some_same ([], bs) p (rw t at e)) in let k = ap length same in omega (arith, k)
+  | inr f ↦ shorter_by b bs (cut byte bs) p (λ q g. cut_shorter byte bs q g) (rw f at e)
+]
+
+-- the last item, and one more, of those that are passed
+pub parted_last : (xs : List (List ℕ)) (rest line : List ℕ) → None ≡ cut 32 rest → xs ++ items_of rest ≡ items_of line → xs ++ rest ∷ [] ≡ items_of line
+parted_last xs rest line e inv = ap (λ (ys : List (List ℕ)). xs ++ ys) (sym (items_last rest e)) ∙ inv
+
+pub parted_more : (xs : List (List ℕ)) (rest line front behind : List ℕ) → Some (front, behind) ≡ cut 32 rest → xs ++ items_of rest ≡ items_of line → (xs ++ front ∷ []) ++ items_of behind ≡ items_of line
+parted_more xs rest line front behind e inv =
+    append_assoc xs (front ∷ []) (items_of behind) ∙ ap (λ (ys : List (List ℕ)). xs ++ ys) (sym (items_more rest front behind e)) ∙ inv
