@@ -1,3 +1,6 @@
+mod ClassForms
+mod Forms
+mod Shown
 mod Stable
 mod Tables
 mod Violated

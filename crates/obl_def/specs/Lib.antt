@@ -1,3 +1,4 @@
+pub mod Forms
 pub mod Holds
 pub mod Obligations
 pub mod Valuation

@@ -1,66 +1,42 @@
 -- The phases of a fitting table: accumulators are of their types, and loaded words are those of LOADED.
 use Rattle.std.proofs.Common.{◌≡◌, ◌≢◌, ℕ, suc, Bool, true, false, List, [], ◌∷◌, length, refl, sym, subst, arith, Option, Some, None}
-use Rattle.std.specs.Prelude.{bytes_eq, flat_map}
+use Rattle.std.specs.Prelude.{flat_map}
 use Rattle.std.specs.List.{AllByRecursion}
 use Rattle.lola_bits.specs.declared.vector.Bits.{Bits}
-use Rattle.lola_bits.specs.Lists.{IsIn, AreEach}
+use Rattle.lola_bits.specs.Lists.{IsIn}
 use Rattle.lola_bits.proofs.All.{of_all, all_of, all_front, all_back, all_flat}
 use Rattle.lola_tree.specs.Tree.{Tree, SourceTree}
 use Rattle.lola_tree.specs.Width.{width}
-use Rattle.lola_width.specs.Said.{NumbersElements}
 use Rattle.tab_tree.specs.declared.value.StateValue.{StateValue}
-use Rattle.tab_tree.specs.declared.value.StateValue.TheVariants.{One}
 use Rattle.tab_tree.specs.Table.{StateTree, TurnsTree, AccessTree, idle_row, take_row, load_row, store_row, fetch_row, PhaseTree, InsideTree, ClassTree, TableTree}
-use Rattle.tab_tree.specs.Names.{Form, vector_form, array_form, Names, nothing, no_names, mapped, form_width, scope_by, shape_form, state_form, table_vector}
+use Rattle.tab_tree.specs.Names.{Form, vector_form, array_form, Names, nothing, no_names, form_width, scope_by, shape_form, table_vector, table_value}
 use Rattle.tab_tree.specs.Registers.{source_forms}
-use Rattle.tab_tree.specs.Step.{Arch, Words, counted, field_values, first_of, state_value, class_names}
-use Rattle.tab_tree.specs.Placed.{word_width, takes_word, count_form, word_forms, field_forms, bare_forms, class_forms, rows_placed, has_turns, turns_placed, phase_placed, phases_placed, some_turns, inside_placed, class_placed, given_placed, state_placed, set_placed, role_width, address_width}
-use Rattle.tab_tree.specs.Suits.{IsOf, HasForm, SuitsArch}
+use Rattle.tab_tree.specs.Step.{Arch, Words, counted, class_names}
+use Rattle.tab_tree.specs.Placed.{Placed, word_width, takes_word, count_form, word_forms, bare_forms, class_forms, rows_placed, has_turns, turns_placed, phase_placed, phases_placed, some_turns, inside_placed, class_placed, given_placed, state_placed, set_placed, role_width, address_width}
+use Rattle.tab_tree.specs.Suits.{IsOf, SuitsArch}
 use Rattle.tab_tree.specs.Fits.{IsAVector, HasWidth, EachInside, OfInside, TurnsAreVectors, SuitsTurns, SuitsAccess, PhasesShaped, StartsPlain, IsFitting}
+use Rattle.obl_def.specs.Forms.{HasFormAt, AreOf}
 use Rattle.obl_def.specs.Valuation.{SuitsForm, SuitsWords}
 use Rattle.proc_check.proofs.Basis.{TurnsFit, PhasesFit, StepsFit}
-use Rattle.proc_check.proofs.Forms.{HasFormAt, AreOf, if_by, rows_of, vector_is}
-use Rattle.proc_check.proofs.Shown.{Wide}
 
--- names of a class by their forms
-first_has : (f g : Option Form) (a c : Option StateValue) → HasFormAt f a → HasFormAt g c → HasFormAt (first_of f g) (first_of a c)
-first_has None g None c p q = q
-first_has None g (Some a) c p q = absurd p
-first_has (Some f) g None c p q = absurd p
-first_has (Some f) g (Some a) c p q = p
+-- an expression has a width where it stands, and the one that is needed
+abbrev Wide : Placed → Type 0
+Wide e = HasWidth e.wanted (width (scope_by e.names) e.expr)
 
-vector_has : (f : Option Form) (x : Option Bits) → SuitsForm f x → HasFormAt f (mapped One x)
-vector_has None None h = tt
-vector_has None (Some x) h = absurd h
-vector_has (Some f) None h = absurd h
-vector_has (Some f) (Some x) h = h
+-- what is known of expressions, and of the names of a class
+abbrev pub HaveVectors : Type 0
+HaveVectors = (forms : Names Form) (names : Names StateValue) → AreOf forms names → (e : Tree) (w : ℕ) → width (scope_by forms) e ≡ Some w →
+    (table_vector names e ≡ Some (table_value names e)) × IsOf w (table_value names e)
 
-state_has : (rows : List StateTree) (A : Arch) → AreEach (λ (row : StateTree) (a : StateValue). HasForm (shape_form row.shape) a) rows A → (name : List ℕ) → HasFormAt (state_form rows name) (state_value rows A name)
-state_has [] A each name = tt
-state_has (row ∷ rows) [] each name = absurd each
-state_has (row ∷ rows) (a ∷ A) each name = if_by HasFormAt (bytes_eq row.name name) (Some (shape_form row.shape)) (state_form rows name) (Some a) (state_value rows A name) each.0 (state_has rows A each.1 name)
+abbrev pub HaveForms : SourceTree → TableTree → Type 0
+HaveForms S T =
+    (b : InsideTree) (loads turns : ℕ) (A : Arch) (i : Bits) (m : Words) (counts : Bool) (k : Option ℕ) → SuitsArch T A → IsOf (word_width S T) i → SuitsWords S T b loads turns m →
+    HasFormAt (count_form counts) (counted k) → AreOf (class_forms S T b loads turns counts nothing) (class_names T b A i m k)
 
-module _ (numbers : (elements bits : ℕ) → NumbersElements elements bits) (S : SourceTree) (T : TableTree) where
-  field_has : (i : Bits) → IsOf (word_width S T) i → (name : List ℕ) → HasFormAt (field_forms S T name) (field_values T i name)
-  field_has i word name =
-      (rows_of numbers T.fields (word_forms S T) (record no_names { word = Some (One i) })
-      (record { word = word; count = tt; loaded = λ j. tt; turned = λ j. tt; named = λ name. tt; register = λ path. tt })).named name
-
-  class_has : (b : InsideTree) (loads turns : ℕ) (A : Arch) (i : Bits) (m : Words) (counts : Bool) (k : Option ℕ) → SuitsArch T A → IsOf (word_width S T) i → SuitsWords S T b loads turns m →
-      HasFormAt (count_form counts) (counted k) → AreOf (class_forms S T b loads turns counts nothing) (class_names T b A i m k)
-  class_has b loads turns A i m counts k old word words count = rows_of numbers b.lets (bare_forms S T b.phases loads turns counts nothing) _
-      (record {
-        word = word;
-        count = count;
-        loaded = λ j. vector_has _ (m.loaded j) (words.loaded j);
-        turned = λ j. vector_has _ (m.turned j) (words.turned j);
-        named = λ name. first_has (state_form T.states name) (field_forms S T name) (state_value T.states A name) (field_values T i name) (state_has T.states A old name) (field_has i word name);
-        register = λ path. tt;
-      })
-
+module _ (vectors : HaveVectors) (S : SourceTree) (T : TableTree) (class_has : HaveForms S T) where
   -- an accumulator's value
   turned_fits : (form : Form) (f : Names Form) (names : Names StateValue) → AreOf f names → (e : Tree) → IsAVector (Some form) → HasWidth (form_width (Some form)) (width (scope_by f) e) → SuitsForm (Some form) (table_vector names e)
-  turned_fits (vector_form w) f names are e is wide = let v = vector_is numbers f names are e w wide in subst (λ x. SuitsForm (Some (vector_form w)) x) (sym v.0) v.1
+  turned_fits (vector_form w) f names are e is wide = let v = vectors f names are e w wide in subst (λ x. SuitsForm (Some (vector_form w)) x) (sym v.0) v.1
   turned_fits (array_form c w) f names are e is wide = absurd is
 
   turns_fit : (b : InsideTree) (p : ℕ) (o : Option TurnsTree) (access : AccessTree) → SuitsTurns o access → TurnsAreVectors o →

@@ -2,10 +2,8 @@ mod Based
 mod Basis
 mod Classes
 mod Edge
-mod Forms
 mod Moments
 mod Phases
 mod Rows
-mod Shown
 mod Theorem
 mod Words

@@ -16,8 +16,7 @@ ghost use Rattle.tab_tree.specs.Fits.{IsFitting};
 ghost use Rattle.tab_tree.specs.Headline.{Resets, Commutes};
 ghost use Rattle.obl_def.specs.Holds.{AllHold};
 
-use lola_design::one_path;
-use lola_width::what_numbers_elements;
+use obl_def::{expressions_have_vectors, names_have_forms, shown_values_suit};
 
 /// The commuting theorem. Where all obligations of a fitting table hold on a regular design that has one
 /// cycle from each state under each input, every reset cycle leaves a state at a boundary with the START
@@ -26,6 +25,7 @@ use lola_width::what_numbers_elements;
 pub fn headline()
     ensures { (S : SourceTree) (T : TableTree) → IsRegular S → ((s inp : Values) → IsState S s → IsGiven S inp → HasOneCycle S s inp) → IsFitting S T → AllHold S T → Resets S T × Commutes S T }
 {
-    what_numbers_elements();
-    one_path();
+    expressions_have_vectors();
+    names_have_forms();
+    shown_values_suit();
 }

@@ -28,12 +28,12 @@ use Rattle.tab_tree.specs.Table.{StateTree, TableTree}
 use Rattle.tab_tree.specs.Names.{vector, Form, vector_form, array_form, bare_name, mapped, form_width, form_element, nth_number, number_at, scope_by, fixed, shape_form, table_value}
 use Rattle.tab_tree.specs.Registers.{array_by, type_form, is_path, is_register, register_among, signal_among, elements, value_by, registers_at, source_forms, source_names}
 use Rattle.tab_tree.specs.Step.{by_row}
-use Rattle.tab_tree.specs.Headline.{element_shown, shown_by, row_shown, shown, word_shown, shown_word, role_value}
+use Rattle.tab_tree.specs.Headline.{element_shown, shown_by, row_shown, shown, word_shown, shown_word, role_value, answer_of}
 use Rattle.tab_tree.specs.Placed.{Placed, code_width, word_width, role_width, given_placed, state_placed}
-use Rattle.tab_tree.specs.Suits.{IsOf, HasForm, SuitsArch}
+use Rattle.tab_tree.specs.Suits.{IsOf, HasForm, SuitsArch, SuitsRole, SuitsAnswer}
 use Rattle.tab_tree.specs.Fits.{IsInRole, HasWidth, IsWhole, ShowsArray, IsFormWidth, HasElements, ArrayHasWidth, IsFitting}
-use Rattle.obl_def.specs.Valuation.{SuitsForm}
-use Rattle.proc_check.proofs.Forms.{HasFormAt, AreOf, vector_is, nth_fits}
+use Rattle.obl_def.specs.Forms.{HasFormAt, AreOf}
+use Rattle.obl_def.proofs.Forms.{vector_is, nth_fits}
 
 -- vectors one behind another
 elements_fit : (count n w : ℕ) (numbers : ℕ → ℕ) → ((k : ℕ) → n ≤ k → k < n + count → FitsWidth w (numbers k)) →
@@ -184,15 +184,14 @@ found (z ∷ xs) path x is leads = elim (cases_Bool (is_path z.path path)) [
     own_path [] = refl
     own_path (n ∷ p) = and_from (bytes_eq n n) (is_path p p) (same_name n n refl) (own_path p)
 
-role_by : (o : Option Form) (numbers : ℕ → ℕ) → form_width o ≢ None → HasFormAt o (value_by o numbers) → SuitsForm (mapped vector_form (form_width o)) (Some (vector (or_zero (form_width o)) (numbers 0)))
+role_by : (o : Option Form) (numbers : ℕ → ℕ) → form_width o ≢ None → HasFormAt o (value_by o numbers) → IsOf (or_zero (form_width o)) (vector (or_zero (form_width o)) (numbers 0))
 role_by None numbers some h = absurd (some refl)
 role_by (Some (vector_form w)) numbers some h = h
 role_by (Some (array_form c w)) numbers some h = absurd (some refl)
 
-pub role_fits : (S : SourceTree) → ((p : Path) → count p (signal_paths S) ≤ 1) → (o : Option (List ℕ)) → IsInRole S o → o ≢ None → (inp : Values) → IsGiven S inp →
-    SuitsForm (mapped vector_form (role_width S o)) (Some (role_value S o inp))
-role_fits S once None is some inp given = absurd (some refl)
-role_fits S once (Some port) is some inp given =
+role_fits : (S : SourceTree) → ((p : Path) → count p (signal_paths S) ≤ 1) → (o : Option (List ℕ)) → IsInRole S o → (inp : Values) → IsGiven S inp → SuitsRole S o (role_value S o inp)
+role_fits S once None is inp given = (refl, refl)
+role_fits S once (Some port) is inp given =
     let path : Path = port ∷ [] in
     let f = found (signals S) path is.signal is.listed.0 is.leads in
     let same : f.0 ≡ is.signal = one_signal path (signals S) (once path) f.0 is.signal f.1 is.listed.0 f.2 is.leads in
@@ -200,3 +199,6 @@ role_fits S once (Some port) is some inp given =
     let suits : Suits is.signal.names is.signal.type (inp path) = subst (λ (p : Path). Suits is.signal.names is.signal.type (inp p)) is.leads (given.inputs is.signal is.listed) in
     role_by (signal_among (signals S) path) (inp path) is.vector
     (subst (λ o. HasFormAt o (value_by o (inp path))) (sym form) (type_has is.signal.names is.signal.type (inp path) suits))
+
+pub answer_fits : (S : SourceTree) (T : TableTree) → ((p : Path) → count p (signal_paths S) ≤ 1) → IsFitting S T → (inp : Values) → IsGiven S inp → SuitsAnswer S T (answer_of S T inp)
+answer_fits S T once fit inp given = record { code = role_fits S once T.roles.fetched fit.roles.fetched inp given; loaded = role_fits S once T.roles.loaded fit.roles.loaded inp given }

@@ -16,7 +16,8 @@ use Rattle.tab_tree.specs.declared.value.StateValue.{StateValue}
 use Rattle.tab_tree.specs.declared.value.StateValue.TheVariants.{One, Many}
 use Rattle.tab_tree.specs.Table.{LetTree}
 use Rattle.tab_tree.specs.Names.{vector, Form, vector_form, array_form, Names, or_else, numbered, bare_name, look, first_width, form_of, mapped, forms_of, form_width, form_element, form_place, scope_by, nth_number, number_at, vector_by, table_vector, table_value, with_name, with_rows, with_forms, fixed, or_empty}
-use Rattle.tab_tree.specs.Suits.{IsOf, HasForm}
+use Rattle.tab_tree.specs.Suits.{IsOf}
+use Rattle.obl_def.specs.Forms.{HasFormAt, AreOf}
 
 -- a relation of what names stand for, name by name
 module _ {X Y : Type 0} (R : Option X → Option Y → Type 0) where
@@ -45,15 +46,8 @@ module _ {X Y : Type 0} (R : Option X → Option Y → Type 0) where
   pub look_by : (f : Names X) (g : Names Y) → Related f g → (r : Ref) → R (look f r) (look g r)
   look_by f g e r = if_by r.source (f.register r.path) (bare_name f (ref_name r)) (g.register r.path) (bare_name g (ref_name r)) (e.register r.path) (bare_by f g e (ref_name r))
 
--- what a name stands for has its form
-abbrev pub HasFormAt : Option Form → Option StateValue → Type 0
-HasFormAt None None = Unit {0}
-HasFormAt None (Some a) = ⊥
-HasFormAt (Some f) None = ⊥
-HasFormAt (Some f) (Some a) = HasForm f a
-
-abbrev pub AreOf : Names Form → Names StateValue → Type 0
-AreOf forms names = Related HasFormAt forms names
+related : (forms : Names Form) (names : Names StateValue) → AreOf forms names → Related HasFormAt forms names
+related forms names are = record { word = are.word; count = are.count; loaded = are.loaded; turned = are.turned; named = are.named; register = are.register }
 
 -- the form of a value is its form
 abbrev IsFormOf : Option Form → Option StateValue → Type 0
@@ -148,7 +142,7 @@ module _ (numbers : (elements bits : ℕ) → NumbersElements elements bits) whe
 
   module _ (forms : Names Form) (names : Names StateValue) (are : AreOf forms names) where
     has : (r : Ref) → HasFormAt (look forms r) (look names r)
-    has r = look_by HasFormAt forms names are r
+    has r = look_by HasFormAt forms names (related forms names are) r
 
     own_widths : (e : Tree) → width (scope_by (forms_of names)) e ≡ width (scope_by forms) e
     own_widths e = width_same (forms_of names) forms
