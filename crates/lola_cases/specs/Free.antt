@@ -19,8 +19,8 @@ is_clock_path (Some name) path = is_alone path name
 abbrev pub is_clock : FlatTree → SignalTree → Bool
 is_clock F s = is_clock_path F.clock s.path
 
--- how many numbers a cycle is given for a signal: one for each element of an input but the clock and of a register, and for
--- a pad the one from outside
+-- how many numbers a cycle is given for a signal: one for each element of an input but the clock and of a register, and
+-- for a pad the one from outside
 abbrev pub count_of : SigKind → Bool → ℕ → ℕ
 count_of Input clock count = cond clock 0 count
 count_of Register clock count = count
@@ -52,7 +52,7 @@ widths elements = map (λ (e : FreeElement). e.width) elements
 abbrev pub free_widths : FlatTree → List ℕ
 free_widths F = widths (free_elements F)
 
--- of these, what is free of inputs and pads, and what is free of registers
+-- in the same order, what is free of inputs and pads alone, and what is free of registers alone
 abbrev pub if_input : SigKind → List FreeElement → List FreeElement
 if_input Input free = free
 if_input Pad free = free
