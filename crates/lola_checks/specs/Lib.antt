@@ -1,0 +1,5 @@
+pub mod Tree
+pub mod Holds
+pub mod Suits
+pub mod Steps
+pub mod Means
