@@ -12,11 +12,11 @@ use Rattle.lrat_text.specs.Reading.{Reading, more, answer_to, Told, LineRead, Ne
 use Rattle.lrat_text.specs.Runs.{IsLast}
 use Rattle.lrat_text.proofs.Readable.{reads_once}
 
-pick_true : (b : Bool) (X Y : Type 0) → b ≡ true → cond b X Y → X
+pub pick_true : (b : Bool) (X Y : Type 0) → b ≡ true → cond b X Y → X
 pick_true true X Y e h = h
 pick_true false X Y e h = absurd (cc)
 
-pick_false : (b : Bool) (X Y : Type 0) → b ≡ false → cond b X Y → Y
+pub pick_false : (b : Bool) (X Y : Type 0) → b ≡ false → cond b X Y → Y
 pick_false true X Y e h = absurd (cc)
 pick_false false X Y e h = h
 

@@ -4,3 +4,5 @@ pub mod Parsed
 pub mod Readable
 pub mod Written
 pub mod ComesAgain
+pub mod ReadBack
+pub mod ReadOnly

@@ -7,6 +7,9 @@ use Rattle.std.proofs.lemmas.List.{drop_more, take_more}
 use Rattle.std.proofs.lemmas.List.Splits.{join_with_byte-slice_split, slice_split-cons_yes, slice_split-cons_no}
 use Rattle.lola_bits.proofs.Options.{nothing, some_same}
 use Rattle.lrat_text.specs.Cut.{with_front, cut, items_of}
+use Rattle.lrat_text.specs.Text.{is_name_byte}
+use Rattle.lrat_text.proofs.Decimals.{both}
+use Rattle.std.proofs.lemmas.List.Folds.{list_all-append}
 
 fronts : (xs ys : List ℕ) (o : Option (List ℕ × List ℕ)) → with_front (xs ++ ys) o ≡ with_front xs (with_front ys o)
 fronts xs ys None = refl
@@ -71,28 +74,46 @@ items_last line e = items_cut line ∙ ap (λ (o : Option (List ℕ × List ℕ)
 pub items_more : (line front behind : List ℕ) → Some (front, behind) ≡ cut 32 line → items_of line ≡ front ∷ items_of behind
 items_more line front behind e = items_cut line ∙ ap (λ (o : Option (List ℕ × List ℕ)). items_from o line) (sym e)
 
--- items joined by blanks are found again
-abbrev pub no_blank : List ℕ → Bool
-no_blank item = list_all (λ b. not (nat_eq b 32)) item
+-- bytes without a byte, and items with neither a blank nor a line feed
+abbrev pub lacks : ℕ → List ℕ → Bool
+lacks byte bytes = list_all (λ b. not (nat_eq b byte)) bytes
 
-no_cut : (x : List ℕ) → no_blank x ≡ true → cut 32 x ≡ None
-no_cut [] e = refl
-no_cut (b ∷ bs) e = elim (cases_Bool (nat_eq b 32)) [
+abbrev pub is_plain : List ℕ → Bool
+is_plain item = list_all is_name_byte item
+
+pub plain_lacks : (xs : List ℕ) → is_plain xs ≡ true → (lacks 32 xs ≡ true) × (lacks 10 xs ≡ true)
+plain_lacks [] e = (refl, refl)
+plain_lacks (b ∷ bs) e =
+    let p = both (is_name_byte b) (is_plain bs) e in
+    let q = both (not (nat_eq b 32)) (not (nat_eq b 10)) p.0 in
+    let r = plain_lacks bs p.1 in (rw q.0 r.0, rw q.1 r.1)
+
+no_cut : (byte : ℕ) (x : List ℕ) → lacks byte x ≡ true → cut byte x ≡ None
+no_cut byte [] e = refl
+no_cut byte (b ∷ bs) e = elim (cases_Bool (nat_eq b byte)) [
   | inl t ↦ let q : false ≡ true = rw t at e in absurd (cc)
-  | inr f ↦ rw f (ap (with_front (b ∷ [])) (no_cut bs (rw f at e)))
+  | inr f ↦ rw f (ap (with_front (b ∷ [])) (no_cut byte bs (rw f at e)))
 ]
 
-cut_at : (x rest : List ℕ) → no_blank x ≡ true → cut 32 (x ++ 32 ∷ rest) ≡ Some (x, rest)
-cut_at [] rest e = refl
-cut_at (b ∷ bs) rest e = elim (cases_Bool (nat_eq b 32)) [
+pub cut_at : (byte : ℕ) (x rest : List ℕ) → lacks byte x ≡ true → cut byte (x ++ byte ∷ rest) ≡ Some (x, rest)
+cut_at byte [] rest e = let t : nat_eq byte byte ≡ true = (Decides-eqb byte byte).1 refl in rw t refl
+cut_at byte (b ∷ bs) rest e = elim (cases_Bool (nat_eq b byte)) [
   | inl t ↦ let q : false ≡ true = rw t at e in absurd (cc)
-  | inr f ↦ rw f (ap (with_front (b ∷ [])) (cut_at bs rest (rw f at e)))
+  | inr f ↦ rw f (ap (with_front (b ∷ [])) (cut_at byte bs rest (rw f at e)))
 ]
 
-pub items_joined : (x : List ℕ) (xs : List (List ℕ)) → AllByRecursion (λ item. no_blank item ≡ true) (x ∷ xs) → items_of (join_with_byte 32 (x ∷ xs)) ≡ x ∷ xs
-items_joined x [] a = items_last x (sym (no_cut x a.0))
-items_joined x (y ∷ ys) a = items_more (x ++ 32 ∷ join_with_byte 32 (y ∷ ys)) x (join_with_byte 32 (y ∷ ys)) (sym (cut_at x (join_with_byte 32 (y ∷ ys)) a.0))
+-- items joined by blanks are found again, and have no line feed
+pub items_joined : (x : List ℕ) (xs : List (List ℕ)) → AllByRecursion (λ item. is_plain item ≡ true) (x ∷ xs) → items_of (join_with_byte 32 (x ∷ xs)) ≡ x ∷ xs
+items_joined x [] a = items_last x (sym (no_cut 32 x (plain_lacks x a.0).0))
+items_joined x (y ∷ ys) a = items_more (x ++ 32 ∷ join_with_byte 32 (y ∷ ys)) x (join_with_byte 32 (y ∷ ys)) (sym (cut_at 32 x (join_with_byte 32 (y ∷ ys)) (plain_lacks x a.0).0))
     ∙ ap (λ (zs : List (List ℕ)). x ∷ zs) (items_joined y ys a.1)
+
+pub joined_lacks : (x : List ℕ) (xs : List (List ℕ)) → AllByRecursion (λ item. is_plain item ≡ true) (x ∷ xs) → lacks 10 (join_with_byte 32 (x ∷ xs)) ≡ true
+joined_lacks x [] a = (plain_lacks x a.0).1
+joined_lacks x (y ∷ ys) a =
+    let f = (plain_lacks x a.0).1 in
+    let r = joined_lacks y ys a.1 in
+    list_all-append (λ b. not (nat_eq b 10)) x (32 ∷ join_with_byte 32 (y ∷ ys)) ∙ (rw f r)
 
 pub joined_items : (line : List ℕ) → join_with_byte 32 (items_of line) ≡ line
 joined_items line = join_with_byte-slice_split 32 line

@@ -4,5 +4,5 @@ pub mod Cut
 pub mod Number
 pub mod Parse
 pub mod Lists
-pub mod Runs
 pub mod Written
+pub mod Runs

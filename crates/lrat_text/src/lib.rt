@@ -17,6 +17,6 @@ mod text;
 mod writer;
 
 pub use cert::{CertError, CertStep};
-pub use laws::{again, one_reading};
+pub use laws::{again, one_reading, read_back, read_whole};
 pub use reader::CertReader;
 pub use writer::write_cert;
