@@ -2,5 +2,6 @@ mod ClassForms
 mod Forms
 mod Shown
 mod Stable
+mod Storing
 mod Tables
 mod Violated

@@ -6,42 +6,42 @@ use Rattle.lola_tree.specs.declared.named.Count.TheVariants.{Fixed}
 use Rattle.lola_tree.specs.declared.named.Shape.{Shape}
 use Rattle.lola_tree.specs.declared.named.Shape.TheVariants.{Vector}
 use Rattle.lola_tree.specs.Tree.{Tree, number, whole, slice, negation, binary}
-use Rattle.tab_tree.specs.Table.{SetTree, idle_row, store_row, fetch_row, PhaseTree, InsideTree, TableTree}
+use Rattle.tab_tree.specs.Table.{SetTree, idle_row, store_row, fetch_row, PhaseTree, InsideTree, ClassTree, TableTree}
 use Rattle.obl_def.specs.Obligations.{obligations, obligation_names}
 
 -- the name of an obligation of a class in a phase
-abbrev at_phase : List ℕ → ℕ → List ℕ → List ℕ
+abbrev pub at_phase : List ℕ → ℕ → List ℕ → List ℕ
 at_phase class p text = class ++ (codes "/" ++ (decimal p ++ (codes "/" ++ text)))
 
-abbrev named : List ℕ → Tree
+abbrev pub named : List ℕ → Tree
 named name = whole (record { source = false; path = name ∷ []; at = 0 })
 
-abbrev register : List ℕ → Tree
+abbrev pub register : List ℕ → Tree
 register name = whole (record { source = true; path = name ∷ []; at = 0 })
 
-abbrev sized : ℕ → ℕ → Tree
+abbrev pub sized : ℕ → ℕ → Tree
 sized n width = number n (Some width) 0
 
-abbrev bare : ℕ → Tree
+abbrev pub bare : ℕ → Tree
 bare n = number n None 0
 
-abbrev of_width : ℕ → Shape
+abbrev pub of_width : ℕ → Shape
 of_width n = Vector (Fixed n 0)
 
-abbrev equal : Tree → Tree → Tree
+abbrev pub equal : Tree → Tree → Tree
 equal a b = binary op.Eq a b 0
 
-abbrev both : Tree → Tree → Tree
+abbrev pub both : Tree → Tree → Tree
 both a b = binary op.And a b 0
 
-abbrev quiet : PhaseTree
+abbrev pub quiet : PhaseTree
 quiet = record { turns = None; access = idle_row; shows = []; link = bare 1 }
 
-abbrev sets : List ℕ → Tree → SetTree
+abbrev pub sets : List ℕ → Tree → SetTree
 sets name e = record { name = name; place = None; value = e }
 
 -- a stall, a first phase, two turns and a last phase; q is shown throughout
-abbrev turning : InsideTree
+abbrev pub turning : InsideTree
 turning = record {
   lets = [];
   phases =
@@ -57,7 +57,7 @@ turning = record {
   sets = sets (codes "q") (negation (named (codes "t1")) 0) ∷ [];
 }
 
-abbrev turning_table : TableTree
+abbrev pub turning_table : TableTree
 turning_table = record {
   name = codes "TT";
   root = codes "Tri";
@@ -93,7 +93,16 @@ turning_count : length (obligations turning_table) ≡ 25
 turning_count = refl
 
 -- one phase with an access, without STALL and CODE
-abbrev storing_table : TableTree
+abbrev pub storing_phase : PhaseTree
+storing_phase = record { turns = None; access = store_row (named (codes "q")) (bare 0) (named (codes "q")); shows = []; link = bare 1 }
+
+abbrev pub storing : InsideTree
+storing = record { lets = []; phases = storing_phase ∷ []; sets = sets (codes "q") (negation (named (codes "q")) 0) ∷ [] }
+
+abbrev pub storing_class : ClassTree
+storing_class = record { name = codes "go"; pattern = codes "-"; inside = Some storing }
+
+abbrev pub storing_table : TableTree
 storing_table = record {
   name = codes "TA";
   root = codes "Acc";
@@ -111,16 +120,7 @@ storing_table = record {
   boundary = bare 1;
   starts = sets (codes "q") (bare 0) ∷ [];
   start_fetch = None;
-  classes =
-      record {
-        name = codes "go";
-        pattern = codes "-";
-        inside = Some (record {
-          lets = [];
-          phases = record { turns = None; access = store_row (named (codes "q")) (bare 0) (named (codes "q")); shows = []; link = bare 1 } ∷ [];
-          sets = sets (codes "q") (negation (named (codes "q")) 0) ∷ [];
-        });
-      } ∷ [];
+  classes = storing_class ∷ [];
 }
 
 storing_names : obligation_names storing_table
@@ -132,7 +132,7 @@ storing_count : length (obligations storing_table) ≡ 8
 storing_count = refl
 
 -- a table with CODE, a bus, a stall, a fetch and a class outside
-abbrev coded_table : TableTree
+abbrev pub coded_table : TableTree
 coded_table = record storing_table {
   roles = record storing_table.roles { stall = Some (record { port = codes "st"; value = true }); code = Some (register (codes "I")); fetched = Some (codes "m") };
   start_fetch = Some (bare 0);
