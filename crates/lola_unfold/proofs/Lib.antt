@@ -4,3 +4,16 @@ pub mod Graph
 pub mod Sizes
 pub mod Knowing
 pub mod Sums
+pub mod Find
+pub mod Laying
+pub mod Inside
+pub mod Nearest
+pub mod Growing
+pub mod Entering
+pub mod Filled
+pub mod Clockless
+pub mod Walking
+pub mod Rooted
+pub mod Surveying
+pub mod Answering
+pub mod Finishing

@@ -7,12 +7,17 @@ use Rattle.lola_tree.specs.design.Calls.{args_of, bare_name}
 use Rattle.lola_tree.specs.design.Clocks.{passed_clocks}
 use Rattle.lola_unfold.specs.declared.slots.Slot.{Slot}
 use Rattle.lola_unfold.specs.Slots.{first_slot}
-use Rattle.lola_unfold.specs.Tables.{Called, no_calls, first_call, calls_with, calls_with_all, some_args, args_or_none, Among, no_clock, clocks_with}
+use Rattle.lola_unfold.specs.Tables.{Called, no_calls, first_call, calls_with, calls_with_all, some_args, args_or_none, Among, no_clock, clocks_with, first_pad}
 
 pub slot_added : (same : Bool) (old : Option Slot) (new : Slot) → (same ≡ true → old ≡ None) → cond same (Some new) old ≡ first_slot old (cond same (Some new) None)
 slot_added true old new absent = sym (ap (λ o. first_slot o (Some new)) (absent refl))
 slot_added false None new absent = refl
 slot_added false (Some s) new absent = refl
+
+pub pad_added : (same : Bool) (old : Option ℕ) (new : ℕ) → (same ≡ true → old ≡ None) → cond same (Some new) old ≡ first_pad old (cond same (Some new) None)
+pad_added true old new absent = sym (ap (λ o. first_pad o (Some new)) (absent refl))
+pad_added false None new absent = refl
+pad_added false (Some s) new absent = refl
 
 pub call_added : (same : Bool) (old : Option (Bor (List Actual))) (new : Bor (List Actual)) → (same ≡ true → old ≡ None) →
     some_args (cond same (Some new) old) ≡ first_call (some_args old) (cond same (Some (map actual_tree new.now)) None)

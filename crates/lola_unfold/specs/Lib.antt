@@ -1,5 +1,10 @@
 pub mod Tables
 pub mod Measured
 pub mod Slots
+pub mod Offsets
 pub mod Translated
 pub mod Flat
+pub mod Pieces
+pub mod Parts
+pub mod Root
+pub mod Finished

@@ -1,5 +1,5 @@
 -- Numbers of signals by tables: each module has one of what its names are among its signals.
-use Rattle.std.specs.Prelude.{ℕ, ◌+◌, ◌-◌, ◌^◌, min, cond, bytes_eq, string_bytes, List, [], ◌∷◌, Option, Some, None, slice_get}
+use Rattle.std.specs.Prelude.{ℕ, ◌+◌, ◌-◌, ◌^◌, min, cond, nat_lt, if◌then◌else◌, bytes_eq, string_bytes, List, [], ◌∷◌, Option, Some, None, slice_get}
 use Rattle.std.specs.Option.{is_none}
 use Rattle.indexmap.specs.IndexMap.{get_by}
 use Rattle.lola_tree.specs.Value.{Path}
@@ -60,3 +60,19 @@ number_after first none (Some offset) = capped (first + offset)
 
 abbrev pub number_from : Base → Path → ℕ
 number_from b path = number_after b.first b.none (offset_of b.tables.now b.at path)
+
+-- where the signals of an instance stand
+abbrev pub base_inside : Base → Slot → ℕ → Base
+base_inside b s at = record { tables = b.tables; at = at; first = capped (b.first + s.offset); none = b.none }
+
+-- the slot of an instance with the number of its module, which stands before the module that has it
+abbrev pub inside_entrance : ℕ → Slot → Option ℕ → Option (Slot × ℕ)
+inside_entrance at s None = None
+inside_entrance at s (Some inner) = if nat_lt inner at then Some (s, inner) else None
+
+abbrev pub slot_entrance : ℕ → Option Slot → Option (Slot × ℕ)
+slot_entrance at None = None
+slot_entrance at (Some s) = inside_entrance at s s.inside
+
+abbrev pub entrance : Base → List ℕ → Option (Slot × ℕ)
+entrance b name = slot_entrance b.at (table_slot (slice_get b.tables.now b.at) name)

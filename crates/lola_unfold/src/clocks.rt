@@ -1,11 +1,11 @@
 ghost use Rattle.std.specs.Prelude.{◌≡◌, false, if◌then◌else◌, ◌∷◌, [], OnOk, map, drop, get_or};
 ghost use Rattle.lola_tree.specs.Tree.{tree, actual_tree};
-ghost use Rattle.lola_tree.specs.design.Calls.{bare_name};
+ghost use Rattle.lola_tree.specs.design.Calls.{bare_name, bare_path};
 ghost use Rattle.lola_tree.specs.design.Clocks.{passed_clocks};
 ghost use Rattle.lola_unfold.specs.Tables.{clocks_found, no_clock, clocks_with};
 
 use indexmap::IndexSet;
-use lola_bits::Memory;
+use lola_bits::{Memory, Name};
 use lola_tree::{Actual, Expr};
 use lola_width::ref_name;
 use std::alloc::Global;
@@ -50,6 +50,16 @@ pub fn bare_name(expr: &Expr) -> &str
     match expr {
         Expr::Whole { of } => ref_name(of),
         _ => "",
+    }
+}
+
+/// The path that an expression is, or none where it is no bare name.
+pub fn bare_path(expr: &Expr) -> &[Name]
+    ensures { result.now ≡ bare_path (tree expr.now) }
+{
+    match expr {
+        Expr::Whole { of } => of.path.items(),
+        _ => &[],
     }
 }
 

@@ -98,7 +98,7 @@ fn join(parts: Seq<FExpr>) -> FExpr
     FExpr::Join { parts }
 }
 
-fn apply(op: Op, args: Seq<FExpr>) -> FExpr
+pub(crate) fn apply(op: Op, args: Seq<FExpr>) -> FExpr
     ensures { expr_tree result ≡ apply op (expr_trees args) }
 {
     lists_are_trees();
@@ -122,7 +122,7 @@ fn two(alloc: Global, a: FExpr, b: FExpr) -> Result<Seq<FExpr>, Memory>
     Ok(args)
 }
 
-fn three(alloc: Global, a: FExpr, b: FExpr, c: FExpr) -> Result<Seq<FExpr>, Memory>
+pub(crate) fn three(alloc: Global, a: FExpr, b: FExpr, c: FExpr) -> Result<Seq<FExpr>, Memory>
     ensures { IfOk result (λ es. expr_trees es ≡ one_expr (expr_tree a) (one_expr (expr_tree b) (one_expr (expr_tree c) no_expr))) }
 {
     let mut args = Seq::new(alloc);

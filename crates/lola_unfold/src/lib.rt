@@ -5,20 +5,36 @@
 //! `flat_design`, its signals in signal order, each with the expression that gives its value or its next
 //! value, and `IsElaborated`, the same with the order of its equations. `flat_uses` says that what its
 //! equations use is what occurs in the equations on paths, and `elaborated_cycle` that a source with such a
-//! design has exactly one cycle from each state under each input. In code stand the parts that a walk over
-//! instances needs: `translate` takes an expression of a module to one over signals, whose numbers come by
-//! tables that each module has once (`Base`), and `extent_of` answers the height and the size of a design,
-//! with one look at each module however many instances it has. Whether a source is well sized, and in which
-//! order equations stand, is not known here.
+//! design has exactly one cycle from each state under each input.
+//!
+//! In code stand the height and the size of a design (`extent_of`) and the walk over its instances. Of each module
+//! is known once what its names stand for, which are clocks and registers, the arguments of its instances (`Part`),
+//! and where its names stand among its signals (`Layout`, `Slots`). Each instance adds its signals at the end, and
+//! puts what its statements and arguments give values to under the numbers of these signals; `design_signals` says
+//! that these are the signals of the flat design. Then `graph_of` has what their equations use. A call that makes
+//! all of this of a source isn't there yet. Whether a source is well sized is not known here, nor how an order is
+//! found.
 #![tactic(auto)]
 
+mod add;
 mod calls;
 mod clocks;
 mod expression;
+mod fill;
+mod finish;
 mod known;
 mod laws;
+mod layout;
+mod made;
 mod measure;
+mod pads;
+mod part;
+mod root;
+mod site;
 mod slots;
+mod unfolding;
+mod uses;
+mod walk;
 
 pub use expression::translate;
 pub use laws::{elaborated_cycle, flat_uses};

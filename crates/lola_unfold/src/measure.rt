@@ -127,7 +127,7 @@ fn add_kind_clocks(
 }
 
 /// The clocks of a module.
-fn clocks_of(
+pub(crate) fn clocks_of(
     alloc: Global,
     known: &Known,
     calls: &Calls,
@@ -161,7 +161,7 @@ fn port_clocks(alloc: Global, clocks: &Clocks, ports: &[Port]) -> Result<Vec<boo
 }
 
 /// The outline of a module, where the modules before it are known.
-fn outline(alloc: Global, known: &Known, module: &Module) -> Result<Outline, Memory>
+pub(crate) fn outline(alloc: Global, known: &Known, module: &Module) -> Result<Outline, Memory>
     ensures { IfOk result (λ o. (earlier : List ModuleTree) → Knows known.now earlier → IsOutline o earlier (module_tree «module».now)) }
 {
     let names = module_names(alloc, module)?;

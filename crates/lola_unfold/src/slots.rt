@@ -1,5 +1,5 @@
-ghost use Rattle.std.specs.Prelude.{◌≡◌, ℕ, List, None, Option, OnOk};
-ghost use Rattle.lola_unfold.specs.Slots.{slot_in, no_slots, slots_with, offset_of, number_from, inner_offset};
+ghost use Rattle.std.specs.Prelude.{◌≡◌, ℕ, List, [], ◌∷◌, None, Option, OnOk, IfSome, ◌<◌};
+ghost use Rattle.lola_unfold.specs.Slots.{slot_in, no_slots, slots_with, offset_of, number_from, inner_offset, entrance, base_inside};
 
 use indexmap::IndexMap;
 use lola_bits::{Memory, Name};
@@ -101,5 +101,50 @@ pub fn number_from(base: Base, path: &[Name]) -> u32
     match offset_of(base.tables, base.at, path) {
         Some(offset) => base.first.saturating_add(offset),
         None => base.none,
+    }
+}
+
+/// The number of the signal of a name.
+pub fn name_number(base: Base, name: &str) -> u32
+    ensures { result ≡ number_from base.entry (name.now ∷ []) }
+{
+    match base.tables.get(base.at) {
+        Some(slots) => match slots.find(name) {
+            Some(slot) => match slot.inside {
+                Some(_) => base.none,
+                None => base.first.saturating_add(slot.offset),
+            },
+            None => base.none,
+        },
+        None => base.none,
+    }
+}
+
+/// The slot of an instance with the number of its module, which stands before the module that has it.
+pub fn entrance(base: Base, name: &str) -> Option<(Slot, usize)>
+    ensures found { result ≡ entrance base.entry name.now }
+    ensures below { IfSome result (λ found. found.1 < base.entry.at) }
+{
+    match base.tables.get(base.at) {
+        Some(slots) => match slots.find(name) {
+            Some(slot) => match slot.inside {
+                Some(at) if at < base.at => Some((slot, at)),
+                _ => None,
+            },
+            None => None,
+        },
+        None => None,
+    }
+}
+
+/// Where the signals of an instance stand whose slot is this one, with the number of its module.
+pub fn base_inside<'a>(base: Base<'a>, slot: Slot, at: usize) -> Base<'a>
+    ensures { result ≡ base_inside base.entry slot at }
+{
+    Base {
+        tables: base.tables,
+        at,
+        first: base.first.saturating_add(slot.offset),
+        none: base.none,
     }
 }
