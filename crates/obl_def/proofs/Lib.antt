@@ -3,5 +3,7 @@ mod Forms
 mod Shown
 mod Stable
 mod Storing
+mod StoringFits
 mod Tables
+mod Turning
 mod Violated

@@ -31,11 +31,11 @@ use Rattle.obl_def.specs.Holds.{IsViolatedAt, AllHold}
 use Rattle.obl_def.proofs.Violated.{none_of_all}
 use Rattle.obl_def.proofs.Tables.{at_phase, named, bare, of_width, storing_phase, storing, storing_class, storing_table}
 
-abbrev port : Way → List ℕ → Port
+abbrev pub port : Way → List ℕ → Port
 port way name = record { way = way; name = name; shape = of_width 1; at = 0 }
 
 -- q turns in each cycle, and is stored at itself: the address is what `shown` says
-abbrev acc_module : Tree → ModuleTree
+abbrev pub acc_module : Tree → ModuleTree
 acc_module shown = record {
   name = codes "Acc";
   ports =
@@ -54,7 +54,7 @@ acc_module shown = record {
   at = 0;
 }
 
-abbrev acc : SourceTree
+abbrev pub acc : SourceTree
 acc = record { modules = acc_module (named (codes "q")) ∷ [] }
 
 abbrev at : Values → List ℕ → ℕ

@@ -40,22 +40,27 @@ quiet = record { turns = None; access = idle_row; shows = []; link = bare 1 }
 abbrev pub sets : List ℕ → Tree → SetTree
 sets name e = record { name = name; place = None; value = e }
 
--- a stall, a first phase, two turns and a last phase; q is shown throughout
-abbrev pub turning : InsideTree
-turning = record {
-  lets = [];
-  phases =
-      quiet
-      ∷ record {
-        turns = Some (record { times = 2; shape = of_width 1; first = named (codes "q"); step = negation (named (codes "t1")) 0 });
-        access = idle_row;
-        shows = [];
-        link = both (equal (register (codes "a")) (named (codes "t1")))
-            (equal (register (codes "c")) (binary op.Add (slice (record { source = false; path = codes "k" ∷ []; at = 0 }) (Fixed 1 0) (Fixed 0 0) 0) (sized 1 2) 0));
-      }
-      ∷ record { turns = None; access = idle_row; shows = []; link = both (equal (register (codes "a")) (named (codes "t1"))) (equal (register (codes "c")) (sized 3 2)) } ∷ [];
-  sets = sets (codes "q") (negation (named (codes "t1")) 0) ∷ [];
+-- a first phase, two turns and a last phase, where cycles may be stalled; q is shown throughout
+abbrev pub turning_link : Tree
+turning_link = both (equal (register (codes "a")) (named (codes "t1")))
+    (equal (register (codes "c")) (binary op.Add (slice (record { source = false; path = codes "k" ∷ []; at = 0 }) (Fixed 1 0) (Fixed 0 0) 0) (sized 1 2) 0))
+
+abbrev pub turning_phase : PhaseTree
+turning_phase = record {
+  turns = Some (record { times = 2; shape = of_width 1; first = named (codes "q"); step = negation (named (codes "t1")) 0 });
+  access = idle_row;
+  shows = [];
+  link = turning_link;
 }
+
+abbrev pub last_phase : PhaseTree
+last_phase = record { turns = None; access = idle_row; shows = []; link = both (equal (register (codes "a")) (named (codes "t1"))) (equal (register (codes "c")) (sized 3 2)) }
+
+abbrev pub turning : InsideTree
+turning = record { lets = []; phases = quiet ∷ turning_phase ∷ last_phase ∷ []; sets = sets (codes "q") (negation (named (codes "t1")) 0) ∷ [] }
+
+abbrev pub turning_class : ClassTree
+turning_class = record { name = codes "go"; pattern = codes "-"; inside = Some turning }
 
 abbrev pub turning_table : TableTree
 turning_table = record {
@@ -75,7 +80,7 @@ turning_table = record {
   boundary = equal (register (codes "c")) (sized 0 2);
   starts = sets (codes "q") (bare 0) ∷ [];
   start_fetch = None;
-  classes = record { name = codes "go"; pattern = codes "-"; inside = Some turning } ∷ [];
+  classes = turning_class ∷ [];
 }
 
 turning_names : obligation_names turning_table

@@ -5,7 +5,8 @@
 //! list and their names, `specs/Valuation.antt` what each leaves free, `specs/Holds.antt` what each says
 //! and where it is violated. So far there are definitions and laws alone: an obligation holds exactly
 //! where it isn't violated, and what the names of a fitting table stand for has the widths of
-//! `specs/Forms.antt`. That all obligations together give whole runs is the law of `proc_check`.
+//! `specs/Forms.antt`. Worked tables meet all their obligations, or violate one (`proofs/Tables.antt`,
+//! `Storing.antt`, `Turning.antt`). That all obligations together give whole runs is the law of `proc_check`.
 #![tactic(auto)]
 
 mod laws;
