@@ -11,7 +11,7 @@ HasFormAt None (Some a) = ⊥
 HasFormAt (Some form) None = ⊥
 HasFormAt (Some form) (Some a) = HasForm form a
 
--- name by name
+-- each name stands for a value of its form
 pub record AreOf (forms : Names Form) (names : Names StateValue) : Type 0 where
   pub word : HasFormAt forms.word names.word
   pub count : HasFormAt forms.count names.count

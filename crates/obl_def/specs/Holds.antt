@@ -35,23 +35,26 @@ abbrev pub EachRow : (ℕ → StateTree → Type 0) → ℕ → List StateTree �
 EachRow P n [] = Unit {0}
 EachRow P n (row ∷ rows) = P n row × EachRow P (suc n) rows
 
--- the old values of states: free where the phase has a SHOWS row, else what the registers show
+-- some row sets the state of a name
 abbrev pub has_row : List SetTree → List ℕ → Bool
 has_row [] name = false
 has_row (row ∷ rows) name = if bytes_eq row.name name then true else has_row rows name
 
+-- the old values of states: free where the phase has a SHOWS row, else what the registers show
 abbrev pub old_states : SourceTree → TableTree → PhaseTree → Values → Arch → Arch
 old_states S T phase s old = by_row (λ n row. if has_row phase.shows row.name then nth_value old n else row_shown S row s) 0 T.states
 
--- the names of SHOWS and LINK at a stage, and what LINK says of registers
+-- what the names in SHOWS stand for at a stage
 abbrev pub stage_names : TableTree → InsideTree → Arch → Bits → Stage → Names StateValue
 stage_names T b A i g = class_names T b A i g.words (turn_count g.phase.turns g.count)
 
--- the entry of a stage: BOUNDARY in phase 0, LINK in a later one
+-- the entry of a stage, whose number is given apart: BOUNDARY in phase 0; in a later one LINK, whose `@` names
+-- are those of the state s
 abbrev pub EntryOf : SourceTree → TableTree → InsideTree → Arch → Bits → ℕ → Stage → Values → Type 0
 EntryOf S T b A i zero g s = IsOne S T.boundary s
 EntryOf S T b A i (suc p) g s = table_number (link_names T b A i g.words (turn_count g.phase.turns g.count) (registers_at S s)) g.phase.link ≡ 1
 
+-- the entry of a stage
 abbrev pub Entry : SourceTree → TableTree → InsideTree → Arch → Bits → Stage → Values → Type 0
 Entry S T b A i g s = EntryOf S T b A i g.number g s
 
@@ -113,20 +116,22 @@ target T b A i g answer (on next) = at_stage (record {
 })
 target T b A i g answer finish = at_boundary (words_behind T b A i g answer)
 
--- what the goals say of what is reached: its entry, its word, and the rows by which states have their
--- values, SHOWS at a stage and SET at a boundary
+-- the entry of what is reached; of a boundary BOUNDARY
 abbrev pub EntryAt : SourceTree → TableTree → InsideTree → Arch → Bits → Target → Values → Type 0
 EntryAt S T b A i (at_stage g) s = Entry S T b A i g s
 EntryAt S T b A i (at_boundary m) s = IsOne S T.boundary s
 
+-- its word: the current one at a stage, the fetched one at a boundary
 abbrev pub code_at : Bits → Answer → Target → Bits
 code_at i answer (at_stage g) = i
 code_at i answer (at_boundary m) = answer.code
 
+-- the rows by which states have their values there, SHOWS at a stage and SET at a boundary
 abbrev pub sets_at : InsideTree → Target → List SetTree
 sets_at b (at_stage g) = g.phase.shows
 sets_at b (at_boundary m) = b.sets
 
+-- what the names in these rows stand for
 abbrev pub names_at : TableTree → InsideTree → Arch → Bits → Target → Names StateValue
 names_at T b A i (at_stage g) = stage_names T b A i g
 names_at T b A i (at_boundary m) = class_names T b A i m None
@@ -140,7 +145,7 @@ GoalAt S T b A i g answer x v s' (start row) = Unit {0}
 GoalAt S T b A i g answer x v s' (state n row) = row_shown S row s' ≡ set_value (sets_at b x) row (nth_value A n) (names_at T b A i x)
 GoalAt S T b A i g answer x v s' access = Sees T v (phase_row T b A i g.phase.turns g.phase.access g.words)
 
--- and behind a reset cycle
+-- what each goal says behind a reset cycle
 abbrev pub ResetGoal : SourceTree → TableTree → Answer → Values → Values → Goal → Type 0
 ResetGoal S T answer v s' invariant = IsOne S T.invariant s'
 ResetGoal S T answer v s' entry = IsOne S T.boundary s'
@@ -149,14 +154,15 @@ ResetGoal S T answer v s' (start row) = number_at (state_value T.states (shown S
 ResetGoal S T answer v s' (state n row) = Unit {0}
 ResetGoal S T answer v s' access = (a : Access) → IsStartAccess T a → Sees T v a
 
--- what an edge's obligation asks of a cycle from the state s under the input inp, with the old states A and
--- the word i, where its premises hold
+-- the stage at which a valuation has a phase
 abbrev pub stage_of : ℕ → PhaseTree → Valuation → Stage
 stage_of p phase w = record { number = p; phase = phase; words = w.words; count = w.count }
 
+-- a goal of an edge out of a stage, with the old states A and the word i, in the cycle v under the input inp
 abbrev pub EdgeGoal : SourceTree → TableTree → Subject → Stage → Edge → Goal → Arch → Bits → Values → Values → Values → Type 0
 EdgeGoal S T u g e goal A i inp v s' = GoalAt S T (steps_of u) A i g (answer_of S T inp) (target T (steps_of u) A i g (answer_of S T inp) e) v s' goal
 
+-- where the premises of the edge hold in the state s, the goal does in each cycle from it
 abbrev pub EdgeHolds : SourceTree → TableTree → Subject → Stage → Edge → Goal → Arch → Bits → Values → Values → Type 0
 EdgeHolds S T u g e goal A i s inp =
     (v s' : Values) → Cycle S s inp v → Next S v s' → Premises S T u A i g e s inp → EdgeGoal S T u g e goal A i inp v s'
@@ -173,8 +179,7 @@ HoldsAt S T (reset goal) w = (v s' : Values) → Cycle S w.state w.input v → N
 HoldsAt S T (edge u p phase e goal) w =
     EdgeHolds S T u (stage_of p phase w) e goal (old_states S T phase w.state w.old) (shown_word S T w.state) w.state w.input
 
--- an obligation is violated at a valuation: its premises hold in the cycle of that state and input, and its
--- goal doesn't
+-- an edge's obligation is violated: its premises hold, and its goal fails in a cycle of that state and input
 pub record IsEdgeViolated (S : SourceTree) (T : TableTree) (u : Subject) (g : Stage) (e : Edge) (goal : Goal) (A : Arch) (i : Bits) (s inp : Values) : Type 0 where
   pub cycle : Values
   pub after : Values
@@ -183,6 +188,7 @@ pub record IsEdgeViolated (S : SourceTree) (T : TableTree) (u : Subject) (g : St
   pub premises : Premises S T u A i g e s inp
   pub fails : EdgeGoal S T u g e goal A i inp cycle after → ⊥
 
+-- that of a reset cycle: its goal fails in a cycle of that state and input
 pub record IsResetViolated (S : SourceTree) (T : TableTree) (goal : Goal) (s inp : Values) : Type 0 where
   pub cycle : Values
   pub after : Values
@@ -190,6 +196,7 @@ pub record IsResetViolated (S : SourceTree) (T : TableTree) (goal : Goal) (s inp
   pub is_next : Next S cycle after
   pub fails : ResetGoal S T (answer_of S T inp) cycle after goal → ⊥
 
+-- an obligation is violated at a valuation: its premises hold there and its goal doesn't
 abbrev pub IsViolatedAt : SourceTree → TableTree → Obligation → Valuation → Type 0
 IsViolatedAt S T cover w = IsCovered T w.word → ⊥
 IsViolatedAt S T (reset goal) w = IsResetViolated S T goal w.state w.input

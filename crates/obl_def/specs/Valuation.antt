@@ -61,6 +61,7 @@ pub record SuitsReset (S : SourceTree) (T : TableTree) (w : Valuation) : Type 0 
   pub active : IsActive T w.input
   pub unstalled : is_unstalled T w.input ≡ true
 
+-- a valuation of an obligation: all that it leaves free suits its names
 abbrev pub IsValuation : SourceTree → TableTree → Obligation → Valuation → Type 0
 IsValuation S T cover w = IsOf (word_width S T) w.word
 IsValuation S T (reset goal) w = SuitsReset S T w
