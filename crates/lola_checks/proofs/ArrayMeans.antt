@@ -1,7 +1,8 @@
 -- The elements of arrays, and whether two arrays are equal.
-use Rattle.std.proofs.Common.{◌≡◌, ℕ, ◌^◌, ◌<◌, ◌≤◌, Bool, true, false, ◌&&◌, List, [], ◌∷◌, length, map, get_or, Option, Some, None, Result, refl, sym, ◌∙◌, ap, ap₂, subst, arith}
+use Rattle.std.proofs.Common.{◌≡◌, ℕ, ◌^◌, ◌<◌, ◌≤◌, Bool, true, ◌&&◌, List, [], ◌∷◌, length, map, get_or, Option, Some, None, Result, refl, sym, ◌∙◌, ap, ap₂, subst, arith}
 use Rattle.std.specs.Prelude.{nat_eq, IfSome, IfOk}
 use Rattle.std.specs.Option.{unwrap_or}
+use Rattle.std.proofs.Math.Bool.{and_assoc, and-true}
 use Rattle.std.specs.List.{AllByRecursion}
 use Rattle.std.proofs.lemmas.List.{length-map}
 use Rattle.lola_bits.proofs.All.{all_mapped}
@@ -30,14 +31,6 @@ use Rattle.lola_checks.specs.Suits.{WriteSuits, ElementsSuit, ArraysAlike, ArePa
 use Rattle.lola_checks.specs.Steps.{write_step, elements_step, same_from, same_step}
 use Rattle.lola_checks.specs.Means.{MeansElements}
 use Rattle.lola_checks.proofs.CompareMeans.{alike_answers}
-
-and_again : (a b c : Bool) → ((a && b) && c) ≡ (a && (b && c))
-and_again true b c = refl
-and_again false b c = refl
-
-and_true : (a : Bool) → a ≡ (a && true)
-and_true true = refl
-and_true false = refl
 
 -- a write suits elements as it suits their widths
 pub suits_array : {B : Type 0} (E : Env (List B)) (wide count : ℕ) (old : List (List B)) (w : WriteTree) → IsWidth wide → AreWide wide old → length old ≡ count → WriteSuits (mapped length E) wide count w →
@@ -120,7 +113,7 @@ module _ {D B : Type 0} (c : Calls D B) (m : Meaning D B) (law : IsAlgebra c m) 
   -- elements one after another, and a bit so far
   from_means : (xs ys : List (List B)) (so : B) (w : (ℕ → Bool) → Bool) (wide : ℕ) (d : D) (made : D × B) → AreWide wide xs → AreWide wide ys → length ys ≡ length xs → AllByRecursion (AreKnown m d) xs → AllByRecursion (AreKnown m d) ys →
       Has m d so w → same_from c xs ys so d ≡ Some made → Answers m d made (λ v. w v && same_numbers (map (number_at m d v) xs) (map (number_at m d v) ys))
-  from_means [] [] so w wide d made p q long kx ky h e = answers_since m d d made w (λ v. w v && true) (stays_same m d) (λ v. and_true (w v)) (kept_bit m d so made w h e)
+  from_means [] [] so w wide d made p q long kx ky h e = answers_since m d d made w (λ v. w v && true) (stays_same m d) (λ v. sym (and-true (w v))) (kept_bit m d so made w h e)
   from_means [] (y ∷ ys) so w wide d made p q long kx ky h e = absurd (omega arith)
   from_means (x ∷ xs) [] so w wide d made p q long kx ky h e = absurd (omega arith)
   from_means (x ∷ xs) (y ∷ ys) so w wide d made p q long kx ky h e =
@@ -133,7 +126,7 @@ module _ {D B : Type 0} (c : Calls D B) (m : Meaning D B) (law : IsAlgebra c m) 
       let rest = from_means xs ys j.0.1 (λ v. w v && f v) wide j.0.0 made p.1 q.1 (omega arith) (stay_known_all m d j.0.0 xs stays kx.1) (stay_known_all m d j.0.0 ys stays ky.1) (made_has m i.0.0 j.0 (λ v. w v && f v) b) j.1.1 in
       answers_since m d j.0.0 made (λ v. (w v && f v) && same_numbers (map (number_at m j.0.0 v) xs) (map (number_at m j.0.0 v) ys))
       (λ v. w v && same_numbers (map (number_at m d v) (x ∷ xs)) (map (number_at m d v) (y ∷ ys))) stays
-      (λ v. and_again (w v) (f v) (same_numbers (map (number_at m j.0.0 v) xs) (map (number_at m j.0.0 v) ys))
+      (λ v. and_assoc (w v) (f v) (same_numbers (map (number_at m j.0.0 v) xs) (map (number_at m j.0.0 v) ys))
       ∙ ap₂ (λ ns ks. w v && (f v && same_numbers ns ks)) (numbers_stay m d j.0.0 xs stays kx.1 v) (numbers_stay m d j.0.0 ys stays ky.1 v)) rest
 
   -- two arrays

@@ -1,5 +1,6 @@
 -- The steps of a check mean where it is violated, in every algebra.
-use Rattle.std.proofs.Common.{◌≡◌, ℕ, Bool, true, false, not, ◌&&◌, ◌||◌, List, [], ◌∷◌, length, Some, refl, ◌∙◌, ap, ap₂}
+use Rattle.std.proofs.Common.{◌≡◌, ℕ, Bool, true, false, not, ◌&&◌, ◌||◌, List, [], ◌∷◌, length, Some, refl, sym, ◌∙◌, ap, ap₂}
+use Rattle.std.proofs.Math.Bool.{and_assoc, and-true}
 use Rattle.std.specs.List.{AllByRecursion, list_all, list_any}
 use Rattle.lola_alg.specs.Algebra.{Calls, Meaning, Stays, Answers, IsAlgebra}
 use Rattle.lola_alg.proofs.Bools.{either}
@@ -44,14 +45,6 @@ either_is : (a b : Bool) → either a b ≡ (a || b)
 either_is true b = refl
 either_is false true = refl
 either_is false false = refl
-
-and_again : (a b c : Bool) → ((a && b) && c) ≡ (a && (b && c))
-and_again true b c = refl
-and_again false b c = refl
-
-and_true : (a : Bool) → a ≡ (a && true)
-and_true true = refl
-and_true false = refl
 
 module _ {D B : Type 0} (c : Calls D B) (m : Meaning D B) (law : IsAlgebra c m) where
   pub join_answers : (join : Join) (a b : B) (x y : (ℕ → Bool) → Bool) (d : D) (made : D × B) → Has m d a x → Has m d b y → join_step c join a b d ≡ Some made → Answers m d made (λ v. joined join (x v) (y v))
@@ -102,7 +95,7 @@ module _ {D B : Type 0} (c : Calls D B) (m : Meaning D B) (law : IsAlgebra c m) 
 
     premises_means : (claims : List ClaimTree) (so : B) (w : (ℕ → Bool) → Bool) (d : D) (made : D × B) → AllByRecursion (ClaimSuits (mapped length E)) claims → EnvKnown m d E → Has m d so w →
         premises_from c E claims so d ≡ Some made → Answers m d made (λ v. w v && list_all (claim_holds (mapped length E) (numbers m d v E)) claims)
-    premises_means [] so w d made suits known h e = answers_since m d d made w (λ v. w v && true) (stays_same m d) (λ v. and_true (w v)) (kept_bit m d so made w h e)
+    premises_means [] so w d made suits known h e = answers_since m d d made w (λ v. w v && true) (stays_same m d) (λ v. sym (and-true (w v))) (kept_bit m d so made w h e)
     premises_means (k ∷ claims) so w d made suits known h e =
         let i = into_made (claim_step c E k d) _ made e in
         let j = into_made (c.both i.0.0 so i.0.1) _ made i.1.1 in
@@ -112,7 +105,7 @@ module _ {D B : Type 0} (c : Calls D B) (m : Meaning D B) (law : IsAlgebra c m) 
         let stays : Stays m d j.0.0 = stays_then m d i.0.0 j.0.0 one.stays two.stays in
         let rest = premises_means claims j.0.1 (λ v. w v && x v) j.0.0 made suits.1 (env_known m d j.0.0 E stays known) (made_has m i.0.0 j.0 (λ v. w v && x v) two) j.1.1 in
         answers_since m d j.0.0 made (λ v. (w v && x v) && list_all (claim_holds (mapped length E) (numbers m j.0.0 v E)) claims) (λ v. w v && list_all (claim_holds (mapped length E) (numbers m d v E)) (k ∷ claims)) stays
-        (λ v. and_again (w v) (x v) (list_all (claim_holds (mapped length E) (numbers m j.0.0 v E)) claims)
+        (λ v. and_assoc (w v) (x v) (list_all (claim_holds (mapped length E) (numbers m j.0.0 v E)) claims)
         ∙ ap (λ N. w v && (x v && list_all (claim_holds (mapped length E) N) claims)) (env_stay m d j.0.0 E stays known v)) rest
 
     -- the bit of a check is 1 exactly where all premises hold and the goal doesn't

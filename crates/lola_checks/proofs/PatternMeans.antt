@@ -3,6 +3,7 @@ use Rattle.std.proofs.Common.{◌≡◌, ℕ, zero, suc, ◌+◌, ◌*◌, ◌/�
 use Rattle.std.specs.Prelude.{nat_eq, slice_get}
 use Rattle.std.specs.Int.{bit_at}
 use Rattle.std.proofs.lemmas.Nat.Bits.{bit_at_lowest, bit_at-suc}
+use Rattle.std.proofs.Math.Bool.{and_assoc, and-true}
 use Rattle.lola_bits.specs.Number.{number}
 use Rattle.lola_bits.specs.BitLists.{number_of}
 use Rattle.lola_bits.proofs.All.{of_all}
@@ -24,14 +25,6 @@ use Rattle.lola_checks.specs.declared.check.Mark.TheVariants.{Zero, One, Any}
 use Rattle.lola_checks.specs.Holds.{mark_suits, pattern_suits}
 use Rattle.lola_checks.specs.Suits.{PatternSuits}
 use Rattle.lola_checks.specs.Steps.{mark_step, fits_from, fits_step}
-
-and_again : (a b c : Bool) → ((a && b) && c) ≡ (a && (b && c))
-and_again true b c = refl
-and_again false b c = refl
-
-and_true : (a : Bool) → a ≡ (a && true)
-and_true true = refl
-and_true false = refl
 
 is_zero : (b : Bool) → not b ≡ nat_eq (number b) 0
 is_zero true = refl
@@ -72,11 +65,11 @@ module _ {D B : Type 0} (c : Calls D B) (m : Meaning D B) (law : IsAlgebra c m) 
       (both_answers c m law n.0 so n.1 w (λ v. not (x v)) made (has_later m d n.0 so w no.stays h) (made_has m d n (λ v. not (x v)) no) e)
   mark_answers One b so x w d made hb h e =
       answers_since m d d made (λ v. w v && x v) (λ v. w v && nat_eq (number (x v)) 1) (stays_same m d) (λ v. ap (λ t. w v && t) (is_one (x v))) (both_answers c m law d so b w x made h hb e)
-  mark_answers Any b so x w d made hb h e = answers_since m d d made w (λ v. w v && true) (stays_same m d) (λ v. and_true (w v)) (kept_bit m d so made w h e)
+  mark_answers Any b so x w d made hb h e = answers_since m d d made w (λ v. w v && true) (stays_same m d) (λ v. sym (and-true (w v))) (kept_bit m d so made w h e)
 
   marks_means : (pattern : List Mark) (bits : List B) (so : B) (w : (ℕ → Bool) → Bool) (d : D) (made : D × B) → length pattern ≤ length bits → AreKnown m d bits → Has m d so w → fits_from c pattern bits so d ≡ Some made →
       Answers m d made (λ v. w v && pattern_suits pattern (number_at m d v bits))
-  marks_means [] bits so w d made long known h e = answers_since m d d made w (λ v. w v && true) (stays_same m d) (λ v. and_true (w v)) (kept_bit m d so made w h e)
+  marks_means [] bits so w d made long known h e = answers_since m d d made w (λ v. w v && true) (stays_same m d) (λ v. sym (and-true (w v))) (kept_bit m d so made w h e)
   marks_means (mark ∷ behind) bits so w d made long known h e =
       let item = item_there bits (length behind) (omega arith) in
       let b : B = item.0 in
@@ -86,7 +79,7 @@ module _ {D B : Type 0} (c : Calls D B) (m : Meaning D B) (law : IsAlgebra c m) 
       let y : (ℕ → Bool) → Bool = λ v. w v && mark_suits mark (number (x v)) in
       let rest = marks_means behind bits i.0.1 y i.0.0 made (omega arith) (stay_known m d i.0.0 bits a.stays known) (made_has m d i.0 y a) i.1.1 in
       answers_since m d i.0.0 made (λ v. y v && pattern_suits behind (number_at m i.0.0 v bits)) (λ v. w v && pattern_suits (mark ∷ behind) (number_at m d v bits)) a.stays
-      (λ v. and_again (w v) (mark_suits mark (number (x v))) (pattern_suits behind (number_at m i.0.0 v bits))
+      (λ v. and_assoc (w v) (mark_suits mark (number (x v))) (pattern_suits behind (number_at m i.0.0 v bits))
       ∙ ap₂ (λ k n. w v && (mark_suits mark k && pattern_suits behind n)) (bit_in (map (m.value d v) bits) (length behind) (x v) (get_map (m.value d v) bits (length behind) b item.1))
       (number_stay m d i.0.0 bits a.stays known v)) rest
 

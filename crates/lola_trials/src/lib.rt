@@ -1,5 +1,7 @@
-//! Tests of `lola_lanes` on words that were worked out by hand.
+//! Tests of `lola_lanes` and `lola_checks` on words that were worked out by hand.
 #![tactic(auto)]
 
+#[cfg(test)]
+mod checks;
 #[cfg(test)]
 mod words;

@@ -1,5 +1,5 @@
 // Words of 64 cases, and the least case that fails. The words are written by hand: bit n of a word is case n.
-ghost use Rattle.std.specs.Prelude.{◌≡◌, nat_eq};
+ghost use Rattle.std.specs.Prelude.{◌<◌, nat_eq};
 ghost use Rattle.std.specs.Int.{bit_at};
 
 use lola_alg::{AlgError, Algebra, low_op};
