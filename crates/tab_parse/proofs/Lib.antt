@@ -1,0 +1,6 @@
+pub mod Begins
+pub mod Chains
+pub mod Exits
+pub mod Fronts
+pub mod Parts
+pub mod PhaseEnds
