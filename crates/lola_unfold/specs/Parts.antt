@@ -14,11 +14,13 @@ use Rattle.lola_tree.specs.design.Signals.{Signal, instance_ports, kind_signals,
 use Rattle.lola_design.specs.Once.{AllOnce}
 use Rattle.lola_width.specs.Table.{found}
 use Rattle.lola_unfold.specs.declared.part.Part.{Part}
+use Rattle.lola_unfold.specs.declared.survey.Survey.{Survey}
 use Rattle.lola_unfold.specs.declared.site.Site.{Site}
 use Rattle.lola_unfold.specs.Slots.{number_from}
 use Rattle.lola_unfold.specs.Translated.{Numbers}
 use Rattle.lola_unfold.specs.Tables.{Among, calls_in, args_or_none, clocks_found, pad_number}
-use Rattle.lola_unfold.specs.Offsets.{IsTable, AreTables}
+use Rattle.lola_unfold.specs.Measured.{Knows}
+use Rattle.lola_unfold.specs.Offsets.{inner_in, inners_in, IsTable, AreTables}
 use Rattle.lola_unfold.specs.Pieces.{View, view_at, Piece, piece}
 
 -- what is known of a module behind some others
@@ -37,6 +39,19 @@ IsPartAt (Some part) earlier m = IsPart part earlier m
 abbrev pub AreParts : List Part → List ModuleTree → Type 0
 AreParts parts [] = Unit {0}
 AreParts parts (m ∷ earlier) = IsPartAt (slice_get parts (length earlier)) earlier m × AreParts parts earlier
+
+-- the tables of some modules are those of their names
+pub record AreLaid (s : Survey) (earlier : List ModuleTree) : Type 0 where
+  pub inners : inner_in s.inners ≡ inners_in earlier
+  pub tables : AreTables s.tables.items earlier
+  pub table_count : length s.tables.items ≡ length earlier
+
+-- what is known of them all
+pub record IsSurvey (s : Survey) (earlier : List ModuleTree) : Type 0 where
+  pub knows : Knows s.known earlier
+  pub parts : AreParts s.parts.items earlier
+  pub part_count : length s.parts.items ≡ length earlier
+  pub laid : AreLaid s earlier
 
 -- the names of a path as the walk holds them
 abbrev pub path_in : List (Bor (List ℕ)) → Path

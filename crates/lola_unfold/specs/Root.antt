@@ -1,5 +1,5 @@
 -- All that stands in a design, from its root on. The modules stand in reverse order, the root first.
-use Rattle.std.specs.Prelude.{◌≡◌, ℕ, cond, List, [], ◌∷◌, ◌++◌, map, length, reverse, replicate, Option, Some, None}
+use Rattle.std.specs.Prelude.{◌≡◌, ℕ, ◌≤◌, cond, List, [], ◌∷◌, ◌++◌, map, length, reverse, replicate, Option, Some, None}
 use Rattle.lola_tree.specs.declared.module.Port.{Port}
 use Rattle.lola_tree.specs.Tree.{ModuleTree, SourceTree}
 use Rattle.lola_tree.specs.Names.{names_of}
@@ -9,7 +9,8 @@ use Rattle.lola_tree.specs.design.Signals.{Signal, local_signals, signals_inside
 use Rattle.lola_design.specs.Once.{AllOnce}
 use Rattle.lola_design.specs.Graph.{number_of}
 use Rattle.lola_flat.specs.Numbers.{first_numbers}
-use Rattle.lola_flat.specs.Tree.{SignalTree, FlatTree}
+use Rattle.lola_flat.specs.Tree.{SignalTree, signal_tree, FlatTree}
+use Rattle.lola_flat.specs.declared.design.Signal.{Signal as FlatSignal}
 use Rattle.lola_unfold.specs.declared.slots.Slots.{Slots as SlotTable}
 use Rattle.lola_unfold.specs.declared.part.Part.{Part}
 use Rattle.lola_unfold.specs.Translated.{Numbers}
@@ -70,3 +71,15 @@ root_clock modules = clock_name (root_signals modules)
 -- and the design, but for the order of its equations
 abbrev pub design_of : List ModuleTree → FlatTree
 design_of modules = record { root = root_name modules; clock = root_clock modules; ports = first_numbers (port_count modules); signals = all_signals modules; order = [] }
+
+-- the table of a root behind some modules
+pub record IsRootTable (tables : List SlotTable) (earlier : List ModuleTree) (m : ModuleTree) (count : ℕ) : Type 0 where
+  pub all_tables : AreTables tables earlier
+  pub table : IsTable tables (length earlier) no_clock earlier m
+  pub counts : count ≡ (laid_of no_clock (inners_in earlier) m).count
+
+-- the clock of a design and its signals
+pub record IsRootMade (modules : List ModuleTree) (clock : Option (List ℕ)) (signals : List FlatSignal) : Type 0 where
+  pub clock_is : clock ≡ root_clock modules
+  pub signals_are : map signal_tree signals ≡ all_signals modules
+  pub few : length signals ≤ 65536

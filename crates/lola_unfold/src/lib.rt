@@ -7,13 +7,11 @@
 //! equations use is what occurs in the equations on paths, and `elaborated_cycle` that a source with such a
 //! design has exactly one cycle from each state under each input.
 //!
-//! In code stand the height and the size of a design (`extent_of`) and the walk over its instances. Of each module
-//! is known once what its names stand for, which are clocks and registers, the arguments of its instances (`Part`),
-//! and where its names stand among its signals (`Layout`, `Slots`). Each instance adds its signals at the end, and
-//! puts what its statements and arguments give values to under the numbers of these signals; `design_signals` says
-//! that these are the signals of the flat design. Then `graph_of` has what their equations use. A call that makes
-//! all of this of a source isn't there yet. Whether a source is well sized is not known here, nor how an order is
-//! found.
+//! `elaborate` answers that design, or why there is none. Of each module is known once what its names stand for,
+//! which are clocks and registers, the arguments of its instances (`Part`), and where its names stand among its
+//! signals (`Layout`, `Slots`); `Survey` has that of all. Then the walk goes over the instances: each adds its
+//! signals at the end, and puts what its statements and arguments give values to under the numbers of these
+//! signals. Whether a source is well sized is not known here, nor how an order is found.
 #![tactic(auto)]
 
 mod add;
@@ -32,6 +30,7 @@ mod part;
 mod root;
 mod site;
 mod slots;
+mod survey;
 mod unfolding;
 mod uses;
 mod walk;
@@ -40,3 +39,4 @@ pub use expression::translate;
 pub use laws::{elaborated_cycle, flat_uses};
 pub use measure::{Extent, extent_of};
 pub use slots::{Base, Slot, Slots, number_from};
+pub use unfolding::{ElabError, elaborate};

@@ -1,11 +1,17 @@
-ghost use Rattle.std.specs.Prelude.{◌≡◌, ◌≤◌, ◌∷◌, IfOk, map, length};
+ghost use Rattle.std.specs.Prelude.{◌≡◌, ◌≤◌, ◌∷◌, IfOk, map, length, reverse};
+ghost use Rattle.lola_tree.specs.Tree.{source_tree};
+ghost use Rattle.lola_design.specs.Once.{AllOnce};
 ghost use Rattle.lola_flat.specs.Tree.{flat_tree};
-ghost use Rattle.lola_unfold.specs.Finished.{dotted, name_at, IsAnswer, IsOrdered};
+ghost use Rattle.lola_unfold.specs.Finished.{dotted, name_at, IsAnswer, IsOrdered, Answers};
 
+use crate::laws::flat_uses;
+use crate::measure::extent_of;
+use crate::root::unordered;
 use crate::uses::graph_of;
 use lola_bits::{Memory, Name, Seq};
 use lola_flat::{Flat, Signal};
 use lola_order::{Ordered, order};
+use lola_tree::Source;
 use std::alloc::Global;
 
 /// Why a source has no flat design.
@@ -93,4 +99,38 @@ pub(crate) fn order_of(alloc: Global, flat: &Flat) -> Result<Ordered, Memory>
 {
     let graph = graph_of(alloc, flat.signals.items())?;
     order(alloc, graph.as_slice())
+}
+
+/// The flat design of a source: each of its signals, with what gives it its value or its next value over the
+/// numbers of signals, and the order of its equations. TooDeep comes exactly where modules stand more than 64
+/// deep; TooMany exactly where they don't and the signals, each element of an array counted, and the instances are
+/// more than 65,536 together; Loop exactly where none of this holds and a closed chain of signals goes through
+/// their equations. Modules are looked at once, so time and memory grow with the signals and what they hold. That
+/// no module declares a name twice is a law of well sized sources.
+pub fn elaborate(alloc: Global, source: &Source) -> Result<Flat, ElabError>
+    requires { AllOnce (reverse (source_tree source.now).modules) }
+    ensures { Answers (source_tree source.now) result }
+{
+    flat_uses();
+    let extent = match extent_of(alloc, source) {
+        Ok(extent) => extent,
+        Err(_) => return Err(ElabError::Memory),
+    };
+    if extent.height > 64 {
+        return Err(ElabError::TooDeep {
+            height: extent.height,
+        });
+    }
+    if extent.size > 65536 {
+        return Err(ElabError::TooMany);
+    }
+    let flat = match unordered(alloc, source) {
+        Ok(flat) => flat,
+        Err(_) => return Err(ElabError::Memory),
+    };
+    let found = match order_of(alloc, &flat) {
+        Ok(found) => found,
+        Err(_) => return Err(ElabError::Memory),
+    };
+    answered(alloc, flat, found)
 }
