@@ -1,12 +1,12 @@
 -- What elaboration answers for a flat design with an order or a loop.
-use Rattle.std.proofs.Common.{◌≡◌, ℕ, ◌<◌, ◌≤◌, ◌-◌, ◌^◌, min, List, [], ◌∷◌, map, get_or, Result, Ok, Err, refl, sym, ap, ap₂, ◌∙◌, subst, arith}
+use Rattle.std.proofs.Common.{◌≡◌, ℕ, ◌<◌, ◌≤◌, ◌-◌, ◌^◌, List, [], ◌∷◌, map, get_or, Result, Ok, Err, refl, sym, ap, ◌∙◌, subst, arith}
 use Rattle.lola_tree.specs.Tree.{SourceTree}
 use Rattle.lola_tree.specs.Value.{Path}
 use Rattle.lola_tree.specs.design.Signals.{Signal, height, size, signals, signal_paths}
 use Rattle.lola_tree.specs.design.Chains.{IsLoop}
 use Rattle.lola_order.specs.declared.ordering.Ordered.{Ordered}
 use Rattle.lola_order.specs.declared.ordering.Ordered.TheVariants.{Order, Loop}
-use Rattle.lola_order.specs.Graph.{Graph, IsOrder, IsLoop as IsGraphLoop}
+use Rattle.lola_order.specs.Graph.{IsOrder, IsLoop as IsGraphLoop}
 use Rattle.lola_design.specs.Graph.{paths_at}
 use Rattle.lola_design.specs.Regular.{IsRegular}
 use Rattle.lola_flat.specs.declared.design.Flat.{Flat}
@@ -15,8 +15,8 @@ use Rattle.lola_flat.specs.Tree.{SignalTree, signal_tree, FlatTree, flat_tree}
 use Rattle.lola_unfold.specs.declared.unfolding.ElabError.{ElabError}
 use Rattle.lola_unfold.specs.declared.unfolding.ElabError.TheVariants as error
 use Rattle.lola_unfold.specs.Slots.{capped}
-use Rattle.lola_unfold.specs.Flat.{flat_signal, flat_design, flat_graph, IsElaborated}
-use Rattle.lola_unfold.specs.Finished.{dotted, name_at, IsOrdered, IsAnswer, IsAccepted, IsTooDeep, AreTooMany, IsNamedLoop, Answers}
+use Rattle.lola_unfold.specs.Flat.{flat_signal, flat_design, flat_graph}
+use Rattle.lola_unfold.specs.Finished.{dotted, name_at, IsOrdered, IsAnswer, IsAccepted, IsNamedLoop, Answers}
 
 -- the paths of the signals of a flat design
 flat_paths : (xs : List FlatSignal) → map (λ (s : FlatSignal). s.path) xs ≡ map (λ (s : SignalTree). s.path) (map signal_tree xs)

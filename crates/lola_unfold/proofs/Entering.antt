@@ -1,16 +1,12 @@
 -- What stands at the place of an instance.
-use Rattle.std.proofs.Common.{◌≡◌, ◌⊎◌, ℕ, suc, ◌+◌, ◌-◌, ◌^◌, ◌<◌, ◌≤◌, min, Bool, true, false, cond, if◌then◌else◌, bytes_eq, List, [], ◌∷◌, ◌++◌, map, flat_map, length, slice_get, Option, Some, None, refl, sym, ap, ap₂, ◌∙◌, subst, inl, inr, arith, append_assoc}
-use Rattle.lola_bits.specs.Names.{is_among}
+use Rattle.std.proofs.Common.{◌≡◌, ◌⊎◌, ℕ, ◌+◌, Bool, true, false, cond, if◌then◌else◌, bytes_eq, List, [], ◌∷◌, ◌++◌, map, slice_get, Option, Some, None, refl, sym, ap, ◌∙◌, inl, inr, arith}
 use Rattle.lola_tree.specs.declared.module.Way.{Way}
 use Rattle.lola_tree.specs.declared.module.Way.TheVariants.{Inward, Outward, Both}
 use Rattle.lola_tree.specs.declared.module.Port.{Port}
-use Rattle.lola_tree.specs.Tree.{ActualTree, ModuleTree}
-use Rattle.lola_tree.specs.Names.{names_of}
-use Rattle.lola_tree.specs.Signals.{register_names}
+use Rattle.lola_tree.specs.Tree.{ActualTree}
 use Rattle.lola_tree.specs.Value.{Path}
-use Rattle.lola_tree.specs.design.Calls.{bare_name, args_of}
-use Rattle.lola_tree.specs.design.Clocks.{clocks_in, clock_ports}
-use Rattle.lola_tree.specs.design.Places.{Pads, pad_of, way_pad, own_pads, passed_pads, Caller, Place}
+use Rattle.lola_tree.specs.design.Calls.{bare_name}
+use Rattle.lola_tree.specs.design.Places.{Pads, pad_of, way_pad, own_pads, passed_pads}
 use Rattle.lola_unfold.specs.declared.slots.Slot.{Slot}
 use Rattle.lola_unfold.specs.declared.slots.Base.{Base}
 use Rattle.lola_unfold.specs.Slots.{capped, plus, slot_offset, offset_in, offset_of, table_slot, number_after, number_from, base_inside}

@@ -1,24 +1,23 @@
 -- What is put to numbers is what is found by paths.
-use Rattle.std.proofs.Common.{◌≡◌, ℕ, zero, suc, ◌+◌, ◌≤◌, Bool, true, false, cond, if◌then◌else◌, List, [], ◌∷◌, ◌++◌, map, flat_map, drop, get_or, length, replicate, Option, Some, None, refl, sym, ap, ap₂, ◌∙◌, subst, inl, inr, arith}
+use Rattle.std.proofs.Common.{◌≡◌, ℕ, suc, ◌+◌, ◌≤◌, Bool, true, false, if◌then◌else◌, List, [], ◌∷◌, ◌++◌, map, flat_map, length, replicate, Option, Some, None, refl, sym, ap, ap₂, ◌∙◌, subst, inl, inr, arith}
 use Rattle.std.proofs.lemmas.Bool.{cases_Bool}
 use Rattle.std.proofs.lemmas.List.{map-append}
 use Rattle.lola_bits.proofs.Tests.{not_both}
 use Rattle.lola_tree.specs.Value.{Path}
 use Rattle.lola_tree.specs.Tree.{SourceTree}
 use Rattle.lola_tree.specs.Names.{names_of}
-use Rattle.lola_tree.specs.design.Places.{Place, places}
-use Rattle.lola_tree.specs.design.Signals.{Kind, clock, input, pad, wire, register, Signal, signals, signal_paths}
+use Rattle.lola_tree.specs.design.Places.{places}
+use Rattle.lola_tree.specs.design.Signals.{Kind, clock, input, pad, wire, register, Signal, signal_paths}
 use Rattle.lola_tree.specs.design.Equations.{Right, Equation, place_equations, equations, Update, place_updates, updates}
 use Rattle.lola_tree.specs.design.Chains.{flat_equation, flat_equations}
 use Rattle.lola_design.specs.Paths.{path_eq, one_if, count}
 use Rattle.lola_design.specs.Graph.{number_of, right_of}
 use Rattle.lola_design.proofs.OneSolution.{path_same, path_is}
 use Rattle.lola_flat.specs.Tree.{ExprTree, SignalTree}
-use Rattle.lola_unfold.specs.declared.made.Head.{Head}
 use Rattle.lola_unfold.specs.Translated.{Numbers, translated}
-use Rattle.lola_unfold.specs.Flat.{flat_kind, seen_from, flat_right, flat_rights, actual_place, update_of, flat_place, flat_next, place_by, equation_by, numbers_of, flat_signal}
+use Rattle.lola_unfold.specs.Flat.{flat_kind, seen_from, flat_right, flat_rights, actual_place, update_of, place_by, equation_by, numbers_of, flat_signal}
 use Rattle.lola_unfold.specs.Pieces.{NextTree, first_put, put_first, put_all, head, equation_put, update_put, place_puts, place_nexts}
-use Rattle.lola_unfold.specs.Finished.{next_place, next_value, place_for, equation_for, signal_from, signals_from}
+use Rattle.lola_unfold.specs.Finished.{place_for, equation_for, signal_from, signals_from}
 
 -- what is found first by a path
 abbrev found_by : {X : Type 0} → List (Path × X) → Path → Option X

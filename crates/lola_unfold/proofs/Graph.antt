@@ -3,12 +3,9 @@ use Rattle.std.proofs.Common.{◌≡◌, ℕ, suc, ◌+◌, ◌≤◌, Bool, tru
 use Rattle.std.specs.Option.{is_none}
 use Rattle.std.proofs.lemmas.List.{map-append}
 use Rattle.std.proofs.lemmas.Grind.{flat_map-append}
-use Rattle.std.proofs.lemmas.Bool.{cases_lt}
-use Rattle.lola_bits.specs.declared.op.Op.{Op}
-use Rattle.lola_bits.specs.declared.op.Op.TheVariants as op
 use Rattle.lola_bits.specs.Lists.{IsIn}
 use Rattle.lola_tree.specs.declared.named.Ref.{Ref}
-use Rattle.lola_tree.specs.Tree.{Tree, number, whole, bit, slice, index, concat, negation, binary, choice, Parts, no_part, one_part, ModuleTree, SourceTree}
+use Rattle.lola_tree.specs.Tree.{Tree, number, whole, bit, slice, index, concat, negation, binary, choice, Parts, no_part, one_part, SourceTree}
 use Rattle.lola_tree.specs.Names.{Entry, port, constant, local, Names, names_of, ref_name, constant_number}
 use Rattle.lola_tree.specs.Width.{scope_over, scope_of}
 use Rattle.lola_tree.specs.Value.{Path}
@@ -16,12 +13,12 @@ use Rattle.lola_tree.specs.design.Signals.{Kind, clock, input, pad, wire, regist
 use Rattle.lola_tree.specs.design.Equations.{Right, expression, copied, driven, Equation, Update, updates}
 use Rattle.lola_tree.specs.design.Chains.{names_in, part_names_in, paths_of, right_paths, flat_equations}
 use Rattle.lola_design.specs.Paths.{path_eq, one_if, count, lefts, has_equation, paths_where}
-use Rattle.lola_design.specs.Graph.{number_of, right_of, uses_of, graph_of, design_graph}
+use Rattle.lola_design.specs.Graph.{number_of, right_of, uses_of, design_graph}
 use Rattle.lola_design.proofs.Found.{where_less}
-use Rattle.lola_flat.specs.Tree.{ExprTree, ExprTrees, signal, from_outside, apply, no_expr, one_expr, SignalTree}
-use Rattle.lola_flat.specs.Value.{Read, reads, all_reads}
+use Rattle.lola_flat.specs.Tree.{ExprTree, ExprTrees, from_outside, no_expr, one_expr, SignalTree}
+use Rattle.lola_flat.specs.Value.{reads, all_reads}
 use Rattle.lola_unfold.specs.Translated.{Numbers, meant, translated, translated_parts}
-use Rattle.lola_unfold.specs.Flat.{seen_from, flat_right, flat_rights, flat_kind, equation_by, update_of, numbers_of, flat_signal, vector_read, vectors_read, some_uses, kind_uses, flat_graph}
+use Rattle.lola_unfold.specs.Flat.{seen_from, flat_right, flat_rights, flat_kind, equation_by, update_of, flat_signal, vector_read, vectors_read, some_uses, kind_uses, flat_graph}
 
 abbrev all_vectors : ExprTrees → List ℕ
 all_vectors es = flat_map vector_read (all_reads es)

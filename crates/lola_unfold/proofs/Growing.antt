@@ -8,22 +8,22 @@ use Rattle.lola_tree.specs.declared.named.Shape.{Shape}
 use Rattle.lola_tree.specs.declared.module.Way.{Way}
 use Rattle.lola_tree.specs.declared.module.Way.TheVariants.{Inward, Outward, Both}
 use Rattle.lola_tree.specs.declared.module.Port.{Port}
-use Rattle.lola_tree.specs.Tree.{Tree, ActualTree, StmtTree, assignment, call, pad, ModuleTree}
-use Rattle.lola_tree.specs.Names.{Names, names_of}
+use Rattle.lola_tree.specs.Tree.{Tree, ActualTree, StmtTree, assignment, call, pad}
+use Rattle.lola_tree.specs.Names.{names_of}
 use Rattle.lola_tree.specs.Signals.{register_names}
 use Rattle.lola_tree.specs.Value.{Path}
-use Rattle.lola_tree.specs.design.Places.{Caller, Place}
+use Rattle.lola_tree.specs.design.Places.{Place}
 use Rattle.lola_tree.specs.design.Signals.{wire, Signal, root_kind, root_ports, shown_port, instance_port, instance_ports}
-use Rattle.lola_tree.specs.design.Equations.{expression, Equation, way_equations, arg_equations, stmt_equations, place_equations, Update, stmt_updates, place_updates}
+use Rattle.lola_tree.specs.design.Equations.{expression, Equation, way_equations, arg_equations, stmt_equations, Update, stmt_updates}
 use Rattle.lola_flat.specs.declared.design.SigKind.TheVariants.{Wire}
 use Rattle.lola_flat.specs.declared.expr.FExpr.{FExpr}
-use Rattle.lola_flat.specs.Tree.{ExprTree, expr_tree, some_tree}
+use Rattle.lola_flat.specs.Tree.{expr_tree, some_tree}
 use Rattle.lola_unfold.specs.declared.made.Head.{Head}
 use Rattle.lola_unfold.specs.declared.made.Next.{Next}
 use Rattle.lola_unfold.specs.Translated.{Numbers}
 use Rattle.lola_unfold.specs.Flat.{flat_kind, flat_width, flat_count}
 use Rattle.lola_unfold.specs.Measured.{is_hidden}
-use Rattle.lola_unfold.specs.Pieces.{NextTree, next_tree, some_next, MadeTree, is_free, first_put, put_first, put_all, Piece, grow, joined, View, view_at, stmt_puts, stmt_nexts, stmt_piece, body_piece, way_puts, way_piece, arg_puts, args_piece, head_of, head_piece, ports_piece, root_piece, port_heads, root_kind_of, head, equation_put, update_put, place_puts, place_nexts, piece}
+use Rattle.lola_unfold.specs.Pieces.{next_tree, some_next, MadeTree, is_free, first_put, put_first, put_all, Piece, grow, joined, View, view_at, stmt_puts, stmt_nexts, stmt_piece, body_piece, way_puts, way_piece, arg_puts, args_piece, head_of, head_piece, ports_piece, root_piece, port_heads, root_kind_of, head, equation_put, update_put, place_puts, place_nexts, piece}
 
 pub append_none : {X : Type 0} (xs : List X) → xs ++ [] ≡ xs
 append_none [] = refl

@@ -1,5 +1,5 @@
 -- The paths of a design's signals are those that its modules give them, and no instance has the clock of a design.
-use Rattle.std.proofs.Common.{◌≡◌, ℕ, Bool, true, false, cond, if◌then◌else◌, bytes_eq, List, [], ◌∷◌, ◌++◌, map, flat_map, Option, Some, None, refl, sym, ap, ap₂, ◌∙◌, append_assoc}
+use Rattle.std.proofs.Common.{◌≡◌, ℕ, Bool, true, false, if◌then◌else◌, bytes_eq, List, [], ◌∷◌, ◌++◌, map, refl, sym, ap, ap₂, ◌∙◌, append_assoc}
 use Rattle.std.proofs.lemmas.List.{map-append}
 use Rattle.lola_bits.specs.Names.{is_among}
 use Rattle.lola_tree.specs.declared.named.Shape.{Shape}
@@ -13,11 +13,10 @@ use Rattle.lola_tree.specs.Names.{Names, names_of}
 use Rattle.lola_tree.specs.Tree.{ModuleTree}
 use Rattle.lola_tree.specs.Value.{Path}
 use Rattle.lola_tree.specs.design.Clocks.{clocks_in, clock_ports}
-use Rattle.lola_tree.specs.design.Signals.{wire, Signal, root_port, root_ports, shown_port, instance_port, instance_ports, kind_signals, local_signals, signals_at, signals_inside, root_signals}
+use Rattle.lola_tree.specs.design.Signals.{wire, Signal, root_ports, shown_port, instance_port, instance_ports, kind_signals, local_signals, signals_at, signals_inside, root_signals}
 use Rattle.lola_design.proofs.Paths.{paths, paths_append}
 use Rattle.lola_unfold.specs.Tables.{no_clock}
 use Rattle.lola_unfold.specs.Measured.{is_hidden}
-use Rattle.lola_unfold.specs.Flat.{named_clock, clock_name}
 use Rattle.lola_unfold.specs.Offsets.{port_paths, kind_paths, local_paths, own_paths, paths_inside}
 
 abbrev below : Path → List Path → List Path

@@ -1,5 +1,5 @@
 -- What is known of modules, and what is known with one more.
-use Rattle.std.proofs.Common.{◌≡◌, ℕ, suc, ◌+◌, ◌-◌, ◌^◌, ◌≤◌, min, max, sum, Bool, true, false, cond, if◌then◌else◌, bytes_eq, List, [], ◌∷◌, ◌++◌, map, flat_map, reverse, Option, Some, None, refl, sym, ap, ap₂, ◌∙◌, arith}
+use Rattle.std.proofs.Common.{◌≡◌, ℕ, suc, ◌+◌, max, sum, Bool, true, false, cond, if◌then◌else◌, bytes_eq, List, [], ◌∷◌, ◌++◌, map, flat_map, Option, Some, None, refl, sym, ap, ap₂, ◌∙◌, arith}
 use Rattle.lola_bits.specs.Names.{is_among}
 use Rattle.lola_tree.specs.declared.module.Port.{Port}
 use Rattle.lola_tree.specs.declared.module.LocalKind.{LocalKind}

@@ -1,5 +1,5 @@
 -- The slots of a module lead to its signals.
-use Rattle.std.proofs.Common.{◌≡◌, ℕ, suc, ◌+◌, ◌-◌, ◌^◌, ◌<◌, ◌≤◌, min, Bool, true, false, cond, if◌then◌else◌, ◌&&◌, bytes_eq, List, [], ◌∷◌, ◌++◌, map, flat_map, length, slice_get, Option, Some, None, refl, sym, ap, ap₂, ◌∙◌, subst, inl, inr, arith, append_assoc}
+use Rattle.std.proofs.Common.{◌≡◌, ℕ, suc, ◌+◌, ◌-◌, ◌^◌, ◌≤◌, Bool, true, false, cond, if◌then◌else◌, ◌&&◌, bytes_eq, List, [], ◌∷◌, ◌++◌, map, flat_map, length, Option, Some, None, refl, sym, ap, ap₂, ◌∙◌, subst, inl, inr, arith, append_assoc}
 use Rattle.std.proofs.lemmas.Bool.{cases_Bool}
 use Rattle.std.proofs.lemmas.List.{length-append}
 use Rattle.lola_bits.specs.Names.{is_among}
@@ -16,10 +16,10 @@ use Rattle.lola_design.specs.Once.{name_count, AreNamesOnce, AllOnce}
 use Rattle.lola_unfold.specs.declared.slots.Slot.{Slot}
 use Rattle.lola_unfold.specs.declared.slots.Slots.{Slots as SlotTable}
 use Rattle.lola_unfold.specs.declared.layout.Inner.{Inner}
-use Rattle.lola_unfold.specs.Slots.{capped, plus, first_slot, slots_with, offset_in, slot_offset, offset_of, table_slot}
+use Rattle.lola_unfold.specs.Slots.{capped, plus, first_slot, slots_with, offset_in, slot_offset, offset_of}
 use Rattle.lola_unfold.specs.Tables.{Among}
 use Rattle.lola_unfold.specs.Measured.{is_hidden}
-use Rattle.lola_unfold.specs.Offsets.{shift, find, port_paths, kind_paths, local_paths, own_paths, paths_inside, Inners, Item, port_items, inner_items, kind_items, local_items, items_of, Laid, no_laid, lay_one, lay, laid_of, inners_in, IsTable, AreTables}
+use Rattle.lola_unfold.specs.Offsets.{shift, find, port_paths, kind_paths, local_paths, own_paths, paths_inside, Inners, Item, port_items, inner_items, kind_items, local_items, Laid, no_laid, lay_one, lay, laid_of, inners_in, IsTable, AreTables}
 use Rattle.lola_unfold.proofs.Find.{first_found, found_none, find_append, find_under, find_other, find_empty, plus_shift, plus_plus}
 
 append_none : {X : Type 0} (xs : List X) → xs ++ [] ≡ xs

@@ -1,9 +1,9 @@
 -- The module of an instance, found by its name among the modules before the one that has it, and its slot there.
-use Rattle.std.proofs.Common.{◌≡◌, ℕ, suc, ◌+◌, ◌<◌, ◌≤◌, Bool, true, false, cond, if◌then◌else◌, bytes_eq, List, [], ◌∷◌, ◌++◌, map, flat_map, length, slice_get, Option, Some, None, refl, sym, ap, ap₂, ◌∙◌, subst, inl, inr, arith}
+use Rattle.std.proofs.Common.{◌≡◌, ℕ, ◌+◌, ◌<◌, ◌≤◌, Bool, true, false, cond, if◌then◌else◌, bytes_eq, List, [], ◌∷◌, map, flat_map, length, slice_get, Option, Some, None, refl, sym, ap, ap₂, ◌∙◌, subst, inl, inr, arith}
 use Rattle.std.proofs.lemmas.Bool.{cases_Bool}
 use Rattle.lola_bits.specs.Lists.{IsIn}
 use Rattle.lola_bits.specs.Names.{is_among}
-use Rattle.lola_bits.proofs.Names.{same_name, is_same_name, other_name, is_other_name}
+use Rattle.lola_bits.proofs.Names.{same_name}
 use Rattle.lola_tree.specs.declared.named.Named.{Named}
 use Rattle.lola_tree.specs.declared.module.Port.{Port}
 use Rattle.lola_tree.specs.declared.module.LocalKind.{LocalKind}
@@ -12,8 +12,8 @@ use Rattle.lola_tree.specs.declared.module.Local.{Local}
 use Rattle.lola_tree.specs.Tree.{ModuleTree}
 use Rattle.lola_tree.specs.Value.{Path}
 use Rattle.lola_tree.specs.design.Clocks.{clocks_in, clock_ports}
-use Rattle.lola_tree.specs.design.Places.{Caller, Place, places_at, places_inside, passed_pads}
-use Rattle.lola_tree.specs.design.Signals.{Signal, signals_at, signals_inside}
+use Rattle.lola_tree.specs.design.Places.{Caller, places_at, places_inside, passed_pads}
+use Rattle.lola_tree.specs.design.Signals.{signals_at, signals_inside}
 use Rattle.lola_design.specs.Paths.{one_if}
 use Rattle.lola_design.specs.Once.{name_count, AreNamesOnce, AllOnce}
 use Rattle.lola_unfold.specs.declared.slots.Slot.{Slot}
@@ -23,7 +23,7 @@ use Rattle.lola_unfold.specs.declared.part.Part.{Part}
 use Rattle.lola_unfold.specs.Slots.{first_slot}
 use Rattle.lola_unfold.specs.Tables.{Among}
 use Rattle.lola_unfold.specs.Measured.{is_hidden}
-use Rattle.lola_unfold.specs.Offsets.{Inners, Item, port_items, inner_items, kind_items, local_items, items_of, Laid, no_laid, lay_one, lay, laid_of, inners_in, IsTable, AreTables}
+use Rattle.lola_unfold.specs.Offsets.{Inners, Item, port_items, inner_items, kind_items, local_items, Laid, no_laid, lay_one, lay, laid_of, inners_in, IsTable, AreTables}
 use Rattle.lola_unfold.specs.Parts.{IsPartAt, AreParts}
 use Rattle.lola_unfold.proofs.Laying.{lay_append}
 

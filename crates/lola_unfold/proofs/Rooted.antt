@@ -1,12 +1,10 @@
 -- The root of a design at its place, and the signals of the whole.
-use Rattle.std.proofs.Common.{◌≡◌, ℕ, ◌+◌, ◌-◌, ◌^◌, ◌<◌, ◌≤◌, min, List, [], ◌∷◌, ◌++◌, map, flat_map, length, replicate, reverse, Option, Some, None, refl, sym, ap, ap₂, ◌∙◌, subst, arith, Bor}
+use Rattle.std.proofs.Common.{◌≡◌, ℕ, ◌+◌, ◌≤◌, List, [], ◌∷◌, map, flat_map, length, replicate, reverse, Option, Some, None, refl, sym, ap, ap₂, ◌∙◌, subst, arith, Bor}
 use Rattle.std.proofs.lemmas.List.{reverse-reverse, length-map}
-use Rattle.lola_bits.specs.Names.{is_among}
 use Rattle.lola_tree.specs.Tree.{ModuleTree, SourceTree}
 use Rattle.lola_tree.specs.Value.{Path}
-use Rattle.lola_tree.specs.declared.module.Port.{Port}
 use Rattle.lola_tree.specs.design.Clocks.{clocks_in, clock_ports}
-use Rattle.lola_tree.specs.design.Places.{pad_of, own_pads, Place, root_places, places}
+use Rattle.lola_tree.specs.design.Places.{pad_of, own_pads, Place, root_places}
 use Rattle.lola_tree.specs.design.Signals.{Signal, root_signals, signals, signal_paths}
 use Rattle.lola_design.specs.Once.{AllOnce}
 use Rattle.lola_design.specs.Paths.{count}
@@ -22,9 +20,9 @@ use Rattle.lola_unfold.specs.Slots.{capped, plus, number_after, number_from, off
 use Rattle.lola_unfold.specs.Tables.{PadNumbers, no_clock, no_pads, pads_with_all, pad_or, pads_found, pad_number, own_numbers}
 use Rattle.lola_unfold.specs.Translated.{Numbers}
 use Rattle.lola_unfold.specs.Flat.{seen_from, flat_signal, clock_name, root_name, port_count, flat_design}
-use Rattle.lola_unfold.specs.Offsets.{find, own_paths, paths_inside, laid_of, inners_in, IsTable, AreTables}
-use Rattle.lola_unfold.specs.Pieces.{view_at, MadeTree, head, put_all, place_puts, place_nexts}
-use Rattle.lola_unfold.specs.Parts.{IsPart, path_in, view_in, Stands}
+use Rattle.lola_unfold.specs.Offsets.{find, own_paths, paths_inside, IsTable, AreTables}
+use Rattle.lola_unfold.specs.Pieces.{view_at, head, put_all, place_puts, place_nexts}
+use Rattle.lola_unfold.specs.Parts.{path_in, view_in, Stands}
 use Rattle.lola_unfold.specs.Root.{IsReady, root_numbers, all_made, turned, all_signals, design_of}
 use Rattle.lola_unfold.specs.Finished.{signals_from}
 use Rattle.lola_unfold.proofs.Find.{or_all, number_found, IsBelow, found_below}

@@ -1,6 +1,5 @@
 -- The size of a design is that of its signals and instances, whatever stands where.
-use Rattle.std.proofs.Common.{◌≡◌, ℕ, suc, ◌+◌, ◌-◌, ◌<◌, ◌≤◌, sum, length, take, get_or, Bool, true, false, if◌then◌else◌, bytes_eq, List, [], ◌∷◌, ◌++◌, map, flat_map, reverse, refl, sym, ap, ap₂, ◌∙◌, arith}
-use Rattle.lola_tree.specs.declared.named.Shape.{Shape}
+use Rattle.std.proofs.Common.{◌≡◌, ℕ, ◌+◌, ◌-◌, ◌≤◌, sum, length, take, get_or, Bool, true, false, if◌then◌else◌, bytes_eq, List, [], ◌∷◌, ◌++◌, map, reverse, refl, sym, ap, ap₂, ◌∙◌, arith}
 use Rattle.lola_tree.specs.declared.module.Way.{Way}
 use Rattle.lola_tree.specs.declared.module.Way.TheVariants.{Inward, Outward, Both}
 use Rattle.lola_tree.specs.declared.module.Port.{Port}

@@ -1,17 +1,15 @@
 -- What is known of some modules, and with one more.
-use Rattle.std.proofs.Common.{◌≡◌, ℕ, suc, ◌+◌, ◌<◌, ◌≤◌, Bool, true, false, cond, if◌then◌else◌, bytes_eq, List, [], ◌∷◌, ◌++◌, length, slice_get, Option, Some, None, refl, sym, ap, ap₂, ◌∙◌, subst, arith}
+use Rattle.std.proofs.Common.{◌≡◌, ℕ, suc, ◌+◌, ◌≤◌, Bool, true, false, cond, if◌then◌else◌, bytes_eq, List, [], ◌∷◌, ◌++◌, length, slice_get, Option, Some, refl, sym, ap, ap₂, ◌∙◌, subst, arith}
 use Rattle.lola_bits.specs.Names.{is_among}
-use Rattle.lola_bits.proofs.Places.{get_within, get_last, length_more}
+use Rattle.lola_bits.proofs.Places.{get_within, get_last}
 use Rattle.lola_tree.specs.Tree.{ModuleTree}
 use Rattle.lola_tree.specs.design.Clocks.{clocks_in, clock_ports}
 use Rattle.lola_unfold.specs.declared.slots.Slots.{Slots as SlotTable}
 use Rattle.lola_unfold.specs.declared.layout.Inner.{Inner}
 use Rattle.lola_unfold.specs.declared.part.Part.{Part}
-use Rattle.lola_unfold.specs.declared.known.Known.{Known}
 use Rattle.lola_unfold.specs.Slots.{Slots, slot_in, table_slot}
 use Rattle.lola_unfold.specs.Tables.{Among}
-use Rattle.lola_unfold.specs.Measured.{Knows}
-use Rattle.lola_unfold.specs.Offsets.{Inners, inner_in, inners_in, Laid, laid_of, IsTable, AreTables}
+use Rattle.lola_unfold.specs.Offsets.{Inners, inners_in, laid_of, IsTable, AreTables}
 use Rattle.lola_unfold.specs.Parts.{IsPart, IsPartAt, AreParts}
 
 -- what stands at earlier places stays

@@ -1,35 +1,35 @@
 -- What the walk over instances adds.
-use Rattle.std.proofs.Common.{◌≡◌, ℕ, suc, ◌+◌, ◌<◌, ◌≤◌, Bool, true, false, cond, if◌then◌else◌, nat_lt, bytes_eq, List, [], ◌∷◌, ◌++◌, map, flat_map, take, length, slice_get, Option, Some, None, refl, sym, ap, ap₂, ◌∙◌, subst, arith, append_assoc}
+use Rattle.std.proofs.Common.{◌≡◌, ℕ, Bool, true, false, if◌then◌else◌, nat_lt, List, [], ◌∷◌, ◌++◌, map, flat_map, length, slice_get, Option, Some, None, refl, sym, ap, ap₂, ◌∙◌, subst, arith, append_assoc}
 use Rattle.std.proofs.lemmas.List.{map-append}
 use Rattle.std.proofs.lemmas.Bool.{lt-ltb}
 use Rattle.lola_bits.proofs.Options.{some_same, nothing}
 use Rattle.lola_bits.specs.Lists.{IsIn}
 use Rattle.lola_bits.specs.Names.{is_among}
 use Rattle.lola_tree.specs.declared.named.Named.{Named}
-use Rattle.lola_tree.specs.declared.module.LocalKind.TheVariants.{Reg, Var, Inst}
+use Rattle.lola_tree.specs.declared.module.LocalKind.TheVariants.{Inst}
 use Rattle.lola_tree.specs.declared.module.Local.{Local}
-use Rattle.lola_tree.specs.Tree.{ActualTree, StmtTree, ModuleTree}
+use Rattle.lola_tree.specs.Tree.{ActualTree, ModuleTree}
 use Rattle.lola_tree.specs.Names.{names_of}
 use Rattle.lola_tree.specs.Value.{Path}
 use Rattle.lola_tree.specs.design.Calls.{args_of}
 use Rattle.lola_tree.specs.design.Clocks.{clocks_in, clock_ports}
 use Rattle.lola_tree.specs.design.Places.{pad_of, passed_pads, Caller, Place, places_inside, kind_places, local_places}
-use Rattle.lola_tree.specs.design.Signals.{Signal, instance_ports, root_ports, kind_signals, local_signals, signals_inside}
-use Rattle.lola_tree.specs.design.Equations.{caller_equations, arg_equations, stmt_equations, place_equations, stmt_updates}
+use Rattle.lola_tree.specs.design.Signals.{instance_ports, root_ports, kind_signals, local_signals, signals_inside}
+use Rattle.lola_tree.specs.design.Equations.{caller_equations, arg_equations, stmt_equations}
 use Rattle.lola_unfold.specs.declared.slots.Slot.{Slot}
 use Rattle.lola_unfold.specs.declared.slots.Base.{Base}
 use Rattle.lola_unfold.specs.declared.layout.Inner.{Inner}
 use Rattle.lola_unfold.specs.declared.part.Part.{Part}
 use Rattle.lola_unfold.specs.declared.site.Site.{Site}
-use Rattle.lola_unfold.specs.Slots.{slot_offset, table_slot, number_from, base_inside, entrance, slot_entrance, inside_entrance}
+use Rattle.lola_unfold.specs.Slots.{table_slot, number_from, base_inside, entrance, slot_entrance}
 use Rattle.lola_unfold.specs.Translated.{Numbers}
 use Rattle.lola_unfold.specs.Flat.{seen_from}
 use Rattle.lola_unfold.specs.Tables.{PadNumbers, no_pads, pads_with_all, pad_or, pads_found, pad_number, passed_numbers}
-use Rattle.lola_unfold.specs.Offsets.{inners_in, laid_of, IsTable, AreTables}
-use Rattle.lola_unfold.specs.Pieces.{NextTree, MadeTree, Piece, grow, joined, View, view_at, stmt_puts, stmt_nexts, body_piece, arg_puts, args_piece, port_heads, ports_piece, root_piece, head, equation_put, update_put, place_puts, place_nexts, piece}
-use Rattle.lola_unfold.specs.Parts.{IsPart, IsPartAt, AreParts, path_in, view_in, Stands, IsCalled, entered_signals, entered_places, local_piece, locals_piece}
+use Rattle.lola_unfold.specs.Offsets.{inners_in, IsTable, AreTables}
+use Rattle.lola_unfold.specs.Pieces.{MadeTree, Piece, grow, joined, View, view_at, stmt_puts, body_piece, arg_puts, args_piece, port_heads, ports_piece, root_piece, head, equation_put, place_puts, place_nexts, piece}
+use Rattle.lola_unfold.specs.Parts.{IsPart, IsPartAt, path_in, view_in, Stands, IsCalled, entered_signals, entered_places, local_piece, locals_piece}
 use Rattle.lola_unfold.specs.Root.{IsRoot, root_piece_of}
-use Rattle.lola_unfold.proofs.Growing.{grow_none, grow_joined, piece_joined, args_put, ports_heads, root_heads, body_puts, body_nexts}
+use Rattle.lola_unfold.proofs.Growing.{grow_joined, piece_joined, args_put, ports_heads, root_heads, body_puts, body_nexts}
 use Rattle.lola_unfold.proofs.Nearest.{IsNearest, IsUnknown, Nearest, nearest, HasInner, instance_slot}
 use Rattle.lola_unfold.proofs.Entering.{number_inside, numbered, pad_found, passed_are}
 

@@ -17,7 +17,7 @@ use Rattle.lola_design.specs.Regular.{IsRegular}
 use Rattle.lola_unfold.specs.declared.made.Head.{Head}
 use Rattle.lola_unfold.specs.declared.unfolding.ElabError.{ElabError}
 use Rattle.lola_unfold.specs.declared.unfolding.ElabError.TheVariants as error
-use Rattle.lola_unfold.specs.Pieces.{NextTree, MadeTree}
+use Rattle.lola_unfold.specs.Pieces.{NextTree}
 use Rattle.lola_unfold.specs.Slots.{capped}
 use Rattle.lola_unfold.specs.Flat.{flat_graph, flat_signal, IsElaborated}
 

@@ -1,6 +1,6 @@
 -- What is known of the modules before one, by their names: which ports are clocks, how much an instance adds to a
 -- design, and how deep modules stand in it.
-use Rattle.std.specs.Prelude.{◌≡◌, ℕ, suc, ◌+◌, ◌-◌, ◌^◌, min, max, sum, Bool, true, false, cond, if◌then◌else◌, bytes_eq, string_bytes, List, [], ◌∷◌, map, reverse, Option, Some, None}
+use Rattle.std.specs.Prelude.{◌≡◌, ℕ, suc, ◌+◌, sum, Bool, false, if◌then◌else◌, bytes_eq, string_bytes, List, [], ◌∷◌, map, Option, Some, None}
 use Rattle.indexmap.specs.IndexMap.{get_by}
 use Rattle.lola_tree.specs.declared.module.Way.{Way}
 use Rattle.lola_tree.specs.declared.module.Way.TheVariants.{Inward, Outward, Both}
@@ -8,7 +8,7 @@ use Rattle.lola_tree.specs.declared.module.Port.{Port}
 use Rattle.lola_tree.specs.declared.module.LocalKind.{LocalKind}
 use Rattle.lola_tree.specs.declared.module.LocalKind.TheVariants.{Reg, Var, Inst}
 use Rattle.lola_tree.specs.declared.module.Local.{Local}
-use Rattle.lola_tree.specs.Tree.{ModuleTree, SourceTree}
+use Rattle.lola_tree.specs.Tree.{ModuleTree}
 use Rattle.lola_tree.specs.Names.{Names, names_of}
 use Rattle.lola_bits.specs.Names.{is_among}
 use Rattle.lola_tree.specs.design.Clocks.{clocks_in, clock_ports}

@@ -1,5 +1,5 @@
 -- The paths of a module's signals as the module sees them, and the slots that they have.
-use Rattle.std.specs.Prelude.{◌≡◌, ℕ, ◌+◌, Bool, true, false, if◌then◌else◌, bytes_eq, string_bytes, List, [], ◌∷◌, ◌++◌, map, flat_map, length, slice_get, Option, Some, None}
+use Rattle.std.specs.Prelude.{◌≡◌, ℕ, ◌+◌, if◌then◌else◌, bytes_eq, string_bytes, List, [], ◌∷◌, ◌++◌, map, flat_map, length, slice_get, Option, Some, None}
 use Rattle.indexmap.specs.IndexMap.{get_by}
 use Rattle.lola_bits.specs.Names.{is_among}
 use Rattle.lola_tree.specs.declared.module.Port.{Port}
@@ -10,7 +10,6 @@ use Rattle.lola_tree.specs.Tree.{ModuleTree}
 use Rattle.lola_tree.specs.Value.{Path}
 use Rattle.lola_tree.specs.design.Clocks.{clocks_in, clock_ports}
 use Rattle.lola_design.specs.Paths.{path_eq}
-use Rattle.lola_unfold.specs.declared.slots.Slot.{Slot}
 use Rattle.lola_unfold.specs.declared.slots.Slots.{Slots as SlotTable}
 use Rattle.lola_unfold.specs.declared.layout.Inner.{Inner}
 use Rattle.lola_unfold.specs.declared.layout.Inners.{Inners as InnerTable}

@@ -1,6 +1,6 @@
 -- What each part of a design adds to its flat design: signals, and what gives some of them their values, by their
 -- numbers.
-use Rattle.std.specs.Prelude.{◌≡◌, ℕ, zero, suc, Bool, true, false, if◌then◌else◌, List, [], ◌∷◌, ◌++◌, map, flat_map, Option, Some, None}
+use Rattle.std.specs.Prelude.{ℕ, zero, suc, Bool, true, false, if◌then◌else◌, List, [], ◌∷◌, ◌++◌, map, flat_map, Option, Some, None}
 use Rattle.std.specs.Option.{is_none}
 use Rattle.lola_bits.specs.declared.op.Op.TheVariants as op
 use Rattle.lola_bits.specs.Names.{is_among}
@@ -8,19 +8,18 @@ use Rattle.lola_tree.specs.declared.named.Shape.{Shape}
 use Rattle.lola_tree.specs.declared.module.Way.{Way}
 use Rattle.lola_tree.specs.declared.module.Way.TheVariants.{Inward, Outward, Both}
 use Rattle.lola_tree.specs.declared.module.Port.{Port}
-use Rattle.lola_tree.specs.Tree.{Tree, ActualTree, StmtTree, assignment, call, pad, ModuleTree}
+use Rattle.lola_tree.specs.Tree.{Tree, ActualTree, StmtTree, assignment, call, pad}
 use Rattle.lola_tree.specs.Names.{Names, names_of}
 use Rattle.lola_tree.specs.Signals.{register_names}
 use Rattle.lola_tree.specs.Value.{Path}
-use Rattle.lola_tree.specs.design.Calls.{bare_path, bare_name}
-use Rattle.lola_tree.specs.design.Places.{Pads, pad_of, Place}
-use Rattle.lola_tree.specs.design.Signals.{Kind, Signal}
+use Rattle.lola_tree.specs.design.Calls.{bare_path}
+use Rattle.lola_tree.specs.design.Places.{pad_of, Place}
+use Rattle.lola_tree.specs.design.Signals.{Signal}
 use Rattle.lola_tree.specs.design.Equations.{Equation, place_equations, Update, place_updates}
 use Rattle.lola_tree.specs.design.Chains.{flat_equation}
 use Rattle.lola_flat.specs.declared.design.SigKind.{SigKind}
-use Rattle.lola_flat.specs.declared.design.SigKind.TheVariants.{Input, Pad, Wire, Register}
-use Rattle.lola_flat.specs.declared.expr.FExpr.{FExpr}
-use Rattle.lola_flat.specs.Tree.{ExprTree, signal, from_outside, apply, no_expr, one_expr, expr_tree, some_tree, SignalTree}
+use Rattle.lola_flat.specs.declared.design.SigKind.TheVariants.{Input, Pad, Wire}
+use Rattle.lola_flat.specs.Tree.{ExprTree, signal, from_outside, apply, no_expr, one_expr, expr_tree, some_tree}
 use Rattle.lola_unfold.specs.declared.made.Head.{Head}
 use Rattle.lola_unfold.specs.declared.made.Next.{Next}
 use Rattle.lola_unfold.specs.declared.made.Made.{Made}

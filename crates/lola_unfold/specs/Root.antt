@@ -3,7 +3,6 @@ use Rattle.std.specs.Prelude.{◌≡◌, ℕ, ◌≤◌, cond, List, [], ◌∷�
 use Rattle.lola_tree.specs.declared.module.Port.{Port}
 use Rattle.lola_tree.specs.Tree.{ModuleTree, SourceTree}
 use Rattle.lola_tree.specs.Names.{names_of}
-use Rattle.lola_tree.specs.Value.{Path}
 use Rattle.lola_tree.specs.design.Places.{Place, root_places}
 use Rattle.lola_tree.specs.design.Signals.{Signal, local_signals, signals_inside, root_ports, root_signals}
 use Rattle.lola_design.specs.Once.{AllOnce}

@@ -1,6 +1,5 @@
 -- Numbers of signals by tables: each module has one of what its names are among its signals.
 use Rattle.std.specs.Prelude.{ℕ, ◌+◌, ◌-◌, ◌^◌, min, cond, nat_lt, if◌then◌else◌, bytes_eq, string_bytes, List, [], ◌∷◌, Option, Some, None, slice_get}
-use Rattle.std.specs.Option.{is_none}
 use Rattle.indexmap.specs.IndexMap.{get_by}
 use Rattle.lola_tree.specs.Value.{Path}
 use Rattle.lola_unfold.specs.declared.slots.Slot.{Slot}

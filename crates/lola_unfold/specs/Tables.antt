@@ -1,5 +1,5 @@
 -- What the tables of a module hold: the calls of its instances and the names of its clocks.
-use Rattle.std.specs.Prelude.{ℕ, Bool, false, ◌||◌, cond, if◌then◌else◌, bytes_eq, string_bytes, List, [], ◌∷◌, ◌++◌, map, flat_map, Option, Some, None}
+use Rattle.std.specs.Prelude.{ℕ, Bool, false, ◌||◌, cond, bytes_eq, string_bytes, List, [], ◌∷◌, ◌++◌, map, flat_map, Option, Some, None}
 use Rattle.indexmap.specs.IndexMap.{get_by}
 use Rattle.indexmap.specs.IndexSet.{contains_text}
 use Rattle.lola_tree.specs.Tree.{ActualTree, actual_tree, StmtTree, assignment, call, pad}

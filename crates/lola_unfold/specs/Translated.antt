@@ -1,5 +1,5 @@
 -- An expression over the names of a module as one over signals by their numbers, part for part.
-use Rattle.std.specs.Prelude.{ℕ, cond, nat_lt, List, Option, Some, None}
+use Rattle.std.specs.Prelude.{ℕ, cond, nat_lt, Option, Some, None}
 use Rattle.lola_bits.specs.declared.op.Op.TheVariants as op
 use Rattle.lola_tree.specs.declared.named.Count.{Count}
 use Rattle.lola_tree.specs.Tree.{Tree, number, whole, bit, slice, index, concat, negation, binary, choice, Parts, no_part, one_part}

@@ -1,4 +1,4 @@
-use Rattle.std.proofs.Common.{◌≡◌, ◌+◌, List, take, sym, ap, ◌∙◌, ◌∷◌, [], arith}
+use Rattle.std.proofs.Common.{List, take, sym, ap, ◌∙◌, ◌∷◌, [], arith}
 use Rattle.std.proofs.lemmas.List.{take_all}
 use Rattle.lola_bits.proofs.Places.{take_item}
 use Rattle.lola_tree.specs.declared.module.Port.{Port}

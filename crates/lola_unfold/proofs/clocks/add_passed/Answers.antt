@@ -1,8 +1,7 @@
-use Rattle.std.proofs.Common.{◌≡◌, ◌∙◌, sym, ap, map, drop, ◌+◌, ◌∷◌, ◌++◌, arith, if◌then◌else◌, [], get_or, false, List, ℕ, Bool}
+use Rattle.std.proofs.Common.{◌≡◌, ◌∙◌, sym, ap, map, drop, ◌+◌, ◌∷◌, arith, if◌then◌else◌, [], get_or, false, List, Bool}
 use Rattle.std.proofs.lemmas.List.{drop_all}
 use Rattle.lola_bits.proofs.Places.{drop_item}
-use Rattle.lola_tree.specs.declared.expr.Actual.{Actual}
-use Rattle.lola_tree.specs.Tree.{actual_tree, tree, ActualTree}
+use Rattle.lola_tree.specs.Tree.{actual_tree, ActualTree}
 use Rattle.lola_tree.specs.design.Calls.{bare_name}
 use Rattle.lola_tree.specs.design.Clocks.{passed_clocks}
 use Rattle.lola_unfold.specs.Tables.{Among, clocks_found, clocks_with}

@@ -1,7 +1,6 @@
-use Rattle.std.proofs.Common.{◌≡◌, ℕ, ◌+◌, List, [], ◌∷◌, ◌++◌, drop, length, refl, sym, ◌∙◌, ap, arith, rules}
+use Rattle.std.proofs.Common.{◌≡◌, ◌+◌, List, [], ◌∷◌, ◌++◌, drop, sym, ◌∙◌, ap, arith}
 use Rattle.std.proofs.lemmas.List.{drop_all}
 use Rattle.lola_bits.proofs.Places.{drop_item}
-use Rattle.lola_tree.specs.declared.expr.Part.{Part}
 use Rattle.lola_tree.specs.Tree.{tree, parts_tree}
 use Rattle.lola_tree.proofs.Parts.{concat_tree}
 use Rattle.lola_flat.specs.declared.expr.FExpr.{FExpr}

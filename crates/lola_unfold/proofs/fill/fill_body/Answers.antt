@@ -1,4 +1,4 @@
-use Rattle.std.proofs.Common.{◌≡◌, ◌+◌, List, take, map, sym, ap, ◌∙◌, arith}
+use Rattle.std.proofs.Common.{List, take, map, sym, ap, ◌∙◌, arith}
 use Rattle.std.proofs.lemmas.List.{take_all}
 use Rattle.lola_bits.proofs.Places.{map_item}
 use Rattle.lola_tree.specs.declared.module.Stmt.{Stmt}

@@ -1,4 +1,4 @@
-use Rattle.std.proofs.Common.{◌≡◌, ◌++◌, List, Option, map, drop, sym, ap, ap₂, ◌∙◌}
+use Rattle.std.proofs.Common.{◌++◌, List, Option, map, drop, sym, ap, ap₂, ◌∙◌}
 use Rattle.std.specs.Vec.Iter.{into_iter_items}
 use Rattle.lola_flat.specs.declared.expr.FExpr.{FExpr}
 use Rattle.lola_flat.specs.Tree.{some_tree, signal_tree}

@@ -1,9 +1,9 @@
-use Rattle.std.proofs.Common.{◌≡◌, List, ap, ◌∙◌, map, subst}
+use Rattle.std.proofs.Common.{◌≡◌, ap, ◌∙◌, map, subst}
 use Rattle.lola_tree.specs.Tree.{SourceTree}
 use Rattle.lola_tree.specs.design.Signals.{signals}
 use Rattle.lola_order.specs.Graph.{Graph, IsOrder}
 use Rattle.lola_design.specs.Graph.{design_graph}
-use Rattle.lola_flat.specs.Tree.{SignalTree, FlatTree}
+use Rattle.lola_flat.specs.Tree.{FlatTree}
 use Rattle.lola_unfold.specs.Flat.{flat_signal, flat_graph, IsElaborated}
 use Rattle.lola_unfold.proofs.laws.elaborated_cycle.Goals as goal
 

@@ -1,4 +1,4 @@
-use Rattle.std.proofs.Common.{◌≡◌, List, flat_map, sym, ap, ap₂, ◌∙◌}
+use Rattle.std.proofs.Common.{List, flat_map, sym, ap, ap₂, ◌∙◌}
 use Rattle.lola_tree.specs.declared.module.Port.{Port}
 use Rattle.lola_tree.specs.declared.module.Local.{Local}
 use Rattle.lola_unfold.specs.Slots.{Slots}

@@ -1,4 +1,4 @@
-use Rattle.std.proofs.Common.{◌≡◌, List, Option, length, slice_get, true, false, sym, ap, ◌∙◌, arith}
+use Rattle.std.proofs.Common.{slice_get, sym, ap, ◌∙◌, arith}
 use Rattle.lola_unfold.specs.Pieces.{is_free}
 use Rattle.lola_unfold.proofs.Growing.{put_free, put_taken, free_within}
 use Rattle.lola_unfold.proofs.made.put.Goals as goal

@@ -1,4 +1,4 @@
-use Rattle.std.proofs.Common.{◌≡◌, ◌∙◌, sym, ap, flat_map, drop, ◌+◌, ◌∷◌, ◌++◌, arith, List, ℕ}
+use Rattle.std.proofs.Common.{◌≡◌, ◌∙◌, sym, ap, flat_map, drop, ◌+◌, ◌∷◌, arith, List, ℕ}
 use Rattle.lola_bits.proofs.Places.{drop_item}
 use Rattle.lola_tree.specs.declared.module.Local.{Local}
 use Rattle.lola_unfold.specs.Tables.{Among, calls_in, args_or_none, clocks_found, clocks_with, clocks_by, no_clock}

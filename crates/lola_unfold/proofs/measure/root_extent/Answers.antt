@@ -1,4 +1,4 @@
-use Rattle.std.proofs.Common.{◌≡◌, ℕ, ◌+◌, List, ap, ap₂, ◌∙◌}
+use Rattle.std.proofs.Common.{ℕ, ◌+◌, List, ap, ap₂, ◌∙◌}
 use Rattle.lola_tree.specs.Tree.{module_tree}
 use Rattle.lola_tree.specs.Names.{names_of}
 use Rattle.lola_tree.specs.design.Signals.{locals_height, height_inside}

@@ -1,4 +1,4 @@
-use Rattle.std.proofs.Common.{◌≡◌, ◌⊎◌, List, [], drop, map, sym, ap, ◌∙◌, inl, inr, arith}
+use Rattle.std.proofs.Common.{◌≡◌, ◌⊎◌, [], drop, map, sym, ap, ◌∙◌, inl, inr, arith}
 use Rattle.lola_tree.specs.Tree.{actual_tree}
 use Rattle.lola_unfold.specs.Tables.{pads_found, pads_with_all, pad_number}
 use Rattle.lola_unfold.proofs.Growing.{ended}

@@ -1,10 +1,8 @@
-use Rattle.std.proofs.Common.{◌≡◌, ℕ, List, flat_map, refl, ap, ◌∙◌}
-use Rattle.lola_bits.specs.Names.{is_among}
+use Rattle.std.proofs.Common.{ℕ, List, flat_map, refl, ap, ◌∙◌}
 use Rattle.lola_tree.specs.declared.module.Local.{Local}
 use Rattle.lola_tree.specs.Tree.{module_tree}
 use Rattle.lola_tree.specs.Signals.{register_names}
-use Rattle.lola_tree.specs.design.Clocks.{clocks_in, clock_ports}
-use Rattle.lola_unfold.specs.Tables.{Called, calls_in, args_or_none, clocks_found, clocks_with, clocks_by, no_clock}
+use Rattle.lola_unfold.specs.Tables.{Called, calls_in, args_or_none, clocks_with, clocks_by, no_clock}
 use Rattle.lola_unfold.specs.Measured.{outline_of, outline_ports}
 use Rattle.lola_unfold.proofs.Tables.{called_args, clocks_are}
 use Rattle.lola_unfold.proofs.Knowing.{module_clocks}

@@ -1,4 +1,4 @@
-use Rattle.std.proofs.Common.{◌≡◌, ◌∷◌, ap, ◌∙◌}
+use Rattle.std.proofs.Common.{◌∷◌, ap, ◌∙◌}
 use Rattle.lola_unfold.specs.Pieces.{MadeTree}
 use Rattle.lola_unfold.specs.Finished.{signals_from}
 use Rattle.lola_unfold.proofs.Rooted.{made_are, root_count_is}

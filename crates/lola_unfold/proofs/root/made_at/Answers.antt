@@ -1,4 +1,4 @@
-use Rattle.std.proofs.Common.{◌≡◌, ℕ, List, [], ◌∷◌, refl, ap, ◌∙◌}
+use Rattle.std.proofs.Common.{ℕ, List, [], ◌∷◌, refl, ap, ◌∙◌}
 use Rattle.lola_tree.specs.declared.module.Port.{Port}
 use Rattle.lola_unfold.specs.declared.slots.Base.{Base}
 use Rattle.lola_unfold.specs.declared.site.Site.{Site}

@@ -1,4 +1,4 @@
-use Rattle.std.proofs.Common.{◌≡◌, ◌≤◌, ℕ, List, length, map, sym, ap, ◌∙◌, subst}
+use Rattle.std.proofs.Common.{◌≤◌, List, length, map, sym, ap, ◌∙◌, subst}
 use Rattle.lola_tree.specs.declared.module.Port.{Port}
 use Rattle.lola_flat.specs.declared.design.Signal.{Signal as FlatSignal}
 use Rattle.lola_flat.specs.Numbers.{first_numbers}

@@ -1,4 +1,4 @@
-use Rattle.std.proofs.Common.{◌≡◌, List, map, reverse, sym, ap, ◌∙◌, subst}
+use Rattle.std.proofs.Common.{List, map, reverse, sym, ap, ◌∙◌, subst}
 use Rattle.lola_tree.specs.declared.module.Module.{Module}
 use Rattle.lola_tree.specs.Tree.{module_tree, source_tree}
 use Rattle.lola_design.specs.Once.{AllOnce}

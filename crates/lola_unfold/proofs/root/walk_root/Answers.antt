@@ -1,4 +1,4 @@
-use Rattle.std.proofs.Common.{◌≡◌, List, map, ap, ap₂, ◌∙◌}
+use Rattle.std.proofs.Common.{List, map, ap, ap₂, ◌∙◌}
 use Rattle.lola_tree.specs.declared.module.Port.{Port}
 use Rattle.lola_tree.specs.Tree.{StmtTree, stmt_tree, ModuleTree}
 use Rattle.lola_unfold.specs.Pieces.{made_tree, View, view_at, grow, root_piece, body_piece}

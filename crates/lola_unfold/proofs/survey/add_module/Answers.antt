@@ -1,14 +1,13 @@
-use Rattle.std.proofs.Common.{◌≡◌, ℕ, suc, ◌∷◌, ◌++◌, [], List, length, sym, ap, ◌∙◌, subst}
+use Rattle.std.proofs.Common.{suc, ◌∷◌, ◌++◌, [], length, sym, ap, ◌∙◌, subst}
 use Rattle.std.specs.declared.alloc.Global.{Global}
 use Rattle.std.specs.declared.vec.Vec.{Vec}
 use Rattle.lola_bits.proofs.Places.{length_more}
-use Rattle.lola_tree.specs.Tree.{module_tree, ModuleTree}
+use Rattle.lola_tree.specs.Tree.{module_tree}
 use Rattle.lola_unfold.specs.declared.known.Known.{Known}
-use Rattle.lola_unfold.specs.declared.layout.Inners.{Inners as InnerTable}
 use Rattle.lola_unfold.specs.declared.part.Part.{Part}
 use Rattle.lola_unfold.specs.declared.slots.Slots.{Slots as SlotTable}
 use Rattle.lola_unfold.specs.Measured.{Knows}
-use Rattle.lola_unfold.specs.Offsets.{inner_in, inners_in, AreTables}
+use Rattle.lola_unfold.specs.Offsets.{inner_in, AreTables}
 use Rattle.lola_unfold.proofs.Surveying.{parts_more}
 use Rattle.lola_unfold.proofs.survey.add_module.Goals as goal
 

@@ -1,4 +1,4 @@
-use Rattle.std.proofs.Common.{◌≡◌, ℕ, List, cond, bytes_eq, Some, ap, ◌∙◌}
+use Rattle.std.proofs.Common.{ℕ, List, cond, bytes_eq, Some, ap, ◌∙◌}
 use Rattle.lola_tree.specs.Tree.{module_tree}
 use Rattle.lola_unfold.specs.Measured.{outline_of}
 use Rattle.lola_unfold.proofs.Knowing.{more_known}

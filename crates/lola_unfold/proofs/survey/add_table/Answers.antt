@@ -1,9 +1,9 @@
-use Rattle.std.proofs.Common.{◌≡◌, ℕ, suc, ◌+◌, ◌∷◌, ◌++◌, [], List, cond, bytes_eq, length, Option, Some, sym, ap, ap₂, ◌∙◌}
+use Rattle.std.proofs.Common.{ℕ, suc, List, cond, bytes_eq, length, Some, ap, ap₂, ◌∙◌}
 use Rattle.lola_bits.proofs.Places.{length_more}
 use Rattle.lola_tree.specs.Tree.{module_tree}
 use Rattle.lola_unfold.specs.declared.layout.Inner.{Inner}
 use Rattle.lola_unfold.specs.Tables.{Among}
-use Rattle.lola_unfold.specs.Offsets.{Inners, inner_in, inners_in, Laid, laid_in, laid_of}
+use Rattle.lola_unfold.specs.Offsets.{Inners, inner_in, Laid, laid_of}
 use Rattle.lola_unfold.proofs.Surveying.{tables_more, inners_more}
 use Rattle.lola_unfold.proofs.survey.add_table.Goals as goal
 

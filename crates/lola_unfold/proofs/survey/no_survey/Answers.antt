@@ -1,4 +1,4 @@
-use Rattle.std.proofs.Common.{◌≡◌, ℕ, List, length, ap}
+use Rattle.std.proofs.Common.{length, ap}
 use Rattle.lola_unfold.proofs.Knowing.{none_known}
 use Rattle.lola_unfold.proofs.survey.no_survey.Goals as goal
 

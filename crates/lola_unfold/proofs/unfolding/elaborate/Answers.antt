@@ -1,4 +1,4 @@
-use Rattle.std.proofs.Common.{◌≡◌, ℕ, ◌≤◌, ◌<◌, ◌-◌, ◌^◌, subst, arith}
+use Rattle.std.proofs.Common.{ℕ, ◌≤◌, ◌<◌, ◌-◌, ◌^◌, subst, arith}
 use Rattle.lola_tree.specs.Tree.{source_tree}
 use Rattle.lola_tree.specs.design.Signals.{height, size}
 use Rattle.lola_unfold.proofs.Answering.{answers_are, within_capped}

@@ -1,4 +1,4 @@
-use Rattle.std.proofs.Common.{◌≡◌, ◌++◌, List, flat_map, sym, ap, ◌∙◌}
+use Rattle.std.proofs.Common.{◌++◌, List, flat_map, sym, ap, ◌∙◌}
 use Rattle.lola_flat.specs.declared.expr.FExpr.{FExpr}
 use Rattle.lola_flat.specs.Tree.{ExprTree, expr_tree, expr_trees}
 use Rattle.lola_flat.specs.Value.{all_reads}

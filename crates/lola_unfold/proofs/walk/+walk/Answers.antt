@@ -1,4 +1,4 @@
-use Rattle.std.proofs.Common.{◌≡◌, ℕ, ◌+◌, List, [], ◌∷◌, ◌++◌, map, take, length, slice_get, Option, Some, None, refl, sym, ap, ap₂, ◌∙◌, subst, arith, rules}
+use Rattle.std.proofs.Common.{◌≡◌, ℕ, ◌+◌, List, [], ◌∷◌, ◌++◌, map, take, length, slice_get, Some, None, sym, ap, ap₂, ◌∙◌, subst, arith}
 use Rattle.std.specs.Option.{is_some}
 use Rattle.std.proofs.lemmas.List.{take_all}
 use Rattle.std.proofs.lemmas.Option.{slice_get-get_or, slice_get_past}
@@ -7,13 +7,12 @@ use Rattle.lola_bits.specs.Lists.{IsIn}
 use Rattle.lola_bits.proofs.Places.{take_item, item_in}
 use Rattle.lola_tree.specs.declared.module.Port.{Port}
 use Rattle.lola_tree.specs.declared.module.Local.{Local}
-use Rattle.lola_tree.specs.declared.module.Stmt.{Stmt}
 use Rattle.lola_tree.specs.Tree.{ActualTree, actual_tree, StmtTree, stmt_tree, ModuleTree}
 use Rattle.lola_tree.specs.design.Calls.{args_of}
 use Rattle.lola_unfold.specs.Slots.{entrance}
 use Rattle.lola_unfold.specs.Tables.{args_or_none, calls_in}
-use Rattle.lola_unfold.specs.Pieces.{made_tree, MadeTree, Piece, View, view_at, grow, piece, ports_piece, args_piece, body_piece}
-use Rattle.lola_unfold.specs.Parts.{path_in, view_in, Stands, IsCalled, local_piece, locals_piece, entered_signals, entered_places}
+use Rattle.lola_unfold.specs.Pieces.{made_tree, View, view_at, grow, ports_piece, args_piece, body_piece}
+use Rattle.lola_unfold.specs.Parts.{path_in, view_in, IsCalled, local_piece, locals_piece}
 use Rattle.lola_unfold.proofs.Growing.{grow_none, two_steps}
 use Rattle.lola_unfold.proofs.Walking.{entered, four_steps, one_local, not_entered, is_found, is_stored, enters}
 use Rattle.lola_unfold.proofs.walk.+walk.Goals as goal

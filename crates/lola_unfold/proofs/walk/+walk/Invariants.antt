@@ -1,4 +1,4 @@
-use Rattle.std.proofs.Common.{◌≡◌, ℕ, ◌+◌, ◌*◌, List, take}
+use Rattle.std.proofs.Common.{◌≡◌, ◌+◌, ◌*◌, List, take}
 use Rattle.lola_tree.specs.Tree.{ModuleTree}
 use Rattle.lola_tree.specs.design.Places.{Place}
 use Rattle.lola_unfold.specs.Translated.{Numbers}

@@ -1,4 +1,4 @@
-use Rattle.std.proofs.Common.{◌≡◌, ℕ, cond, List, Some, ap, ◌∙◌, bytes_eq, string_bytes}
+use Rattle.std.proofs.Common.{ℕ, cond, List, Some, ap, ◌∙◌, bytes_eq, string_bytes}
 use Rattle.indexmap.specs.IndexMap.{get_by_text}
 use Rattle.std.proofs.lemmas.Map.Text.{hash_map_updates_text}
 use Rattle.lola_unfold.proofs.known.Known.add.Goals as goal

@@ -1,4 +1,4 @@
-use Rattle.std.proofs.Common.{◌≡◌, map, None, ap, ◌∙◌}
+use Rattle.std.proofs.Common.{map, None, ap, ◌∙◌}
 use Rattle.lola_bits.proofs.Places.{map_replicate}
 use Rattle.lola_flat.specs.Tree.{some_tree}
 use Rattle.lola_unfold.specs.Pieces.{some_next}

@@ -1,4 +1,4 @@
-use Rattle.std.proofs.Common.{◌≡◌, map, sym, ap, ◌∙◌}
+use Rattle.std.proofs.Common.{map, sym, ap, ◌∙◌}
 use Rattle.lola_flat.specs.Tree.{some_tree}
 use Rattle.lola_unfold.specs.Pieces.{made_tree}
 use Rattle.lola_unfold.proofs.Growing.{append_none, put_tree}

@@ -1,4 +1,4 @@
-use Rattle.std.proofs.Common.{◌≡◌, map, sym, ap, ◌∙◌}
+use Rattle.std.proofs.Common.{map, sym, ap, ◌∙◌}
 use Rattle.lola_unfold.specs.Pieces.{made_tree, some_next}
 use Rattle.lola_unfold.proofs.Growing.{append_none, put_next_tree}
 use Rattle.lola_unfold.proofs.made.Made.put_next.Goals as goal

@@ -1,4 +1,4 @@
-use Rattle.std.proofs.Common.{◌≡◌, ℕ, true, cond, List, Some, None, sym, ap, ◌∙◌, bytes_eq, string_bytes, rules}
+use Rattle.std.proofs.Common.{◌≡◌, ℕ, cond, List, Some, None, sym, ap, ◌∙◌, bytes_eq, string_bytes, rules}
 use Rattle.lola_bits.proofs.Names.{is_same_name}
 use Rattle.indexmap.specs.IndexMap.{get_by_text}
 use Rattle.std.proofs.lemmas.Map.Text.{hash_map_updates_text}
