@@ -1,5 +1,5 @@
 -- What the tests of `lola_cases` speak of.
-use Rattle.std.specs.Prelude.{◌≡◌, ℕ, ◌+◌, ◌<◌, List, [], ◌∷◌, get_or, Option}
+use Rattle.std.specs.Prelude.{ℕ, ◌+◌, ◌<◌, List, [], ◌∷◌, get_or, Option}
 use Rattle.lola_flat.specs.declared.design.SigKind.{SigKind}
 use Rattle.lola_flat.specs.Tree.{ExprTree, SignalTree, FlatTree}
 use Rattle.lola_flat.specs.Cycle.{IsCycle, IsNext}
@@ -14,6 +14,6 @@ abbrev pub StaysBelow : FlatTree → ℕ → ℕ → ℕ → List ℕ → Type 0
 StaysBelow F signal element bound numbers =
     (N after : List (List ℕ)) → IsCycle F (given_of F numbers) (outside_of F numbers) N → IsNext F N after → get_or (get_or after signal []) element 0 < bound
 
--- the first number of three is below a bound, or the last is
+-- the first and the last of three numbers are below a bound together
 abbrev pub EndIsBelow : ℕ → List ℕ → Type 0
 EndIsBelow bound numbers = get_or numbers 0 0 + get_or numbers 2 0 < bound
