@@ -14,7 +14,8 @@ use Rattle.tab_tree.specs.Placed.{word_width, count_form, word_forms, field_form
 use Rattle.tab_tree.specs.Suits.{IsOf, HasForm, SuitsArch}
 use Rattle.obl_def.specs.Forms.{HasFormAt, AreOf}
 use Rattle.obl_def.specs.Valuation.{SuitsForm, SuitsWords}
-use Rattle.obl_def.proofs.Forms.{if_by, rows_of}
+use Rattle.obl_def.proofs.Forms.{rows_of}
+use Rattle.obl_def.proofs.Looking.{if_by}
 
 -- names of a class by their forms
 first_has : (f g : Option Form) (a c : Option StateValue) → HasFormAt f a → HasFormAt g c → HasFormAt (first_of f g) (first_of a c)

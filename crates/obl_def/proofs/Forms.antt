@@ -1,50 +1,24 @@
 -- Names that stand for values of their forms, and the expressions over them.
-use Rattle.std.proofs.Common.{◌≡◌, ◌<◌, ◌^◌, ℕ, zero, suc, Bool, true, false, List, [], ◌∷◌, length, refl, sym, ap, ap₂, ◌∙◌, subst, arith, Option, Some, None}
-use Rattle.std.specs.Prelude.{if◌then◌else◌, bytes_eq, codes}
+use Rattle.std.proofs.Common.{◌≡◌, ◌<◌, ◌^◌, ℕ, zero, suc, cond, List, [], ◌∷◌, length, refl, sym, ap, ap₂, ◌∙◌, subst, arith, Option, Some, None}
+use Rattle.std.specs.Prelude.{bytes_eq, nat_eq}
 use Rattle.std.specs.List.{AllByRecursion}
 use Rattle.lola_bits.specs.declared.vector.Bits.{Bits}
 use Rattle.lola_bits.specs.Vector.{FitsWidth}
 use Rattle.lola_bits.proofs.Options.{some_same, nothing}
 use Rattle.lola_tree.specs.declared.named.Ref.{Ref}
 use Rattle.lola_tree.specs.Tree.{Tree, number, whole, bit, slice, index, concat, negation, binary, choice, Parts, no_part, one_part}
-use Rattle.lola_tree.specs.Names.{ref_name}
 use Rattle.lola_tree.specs.Width.{place_width, same_width, defined_width, bit_width, slice_width, operator_width, repeated_width, joined_width, checked_width, width, total_width}
-use Rattle.lola_tree.specs.Value.{value}
+use Rattle.lola_bits.specs.Number.{joined, inverted, operate}
+use Rattle.lola_tree.specs.Value.{or_zero, repeated, value, value_of_parts}
 use Rattle.lola_width.specs.Said.{NumbersElements}
 use Rattle.lola_values.proofs.Below.{value_fits}
 use Rattle.tab_tree.specs.declared.value.StateValue.{StateValue}
 use Rattle.tab_tree.specs.declared.value.StateValue.TheVariants.{One, Many}
 use Rattle.tab_tree.specs.Table.{LetTree}
-use Rattle.tab_tree.specs.Names.{vector, Form, vector_form, array_form, Names, or_else, numbered, bare_name, look, first_width, form_of, mapped, forms_of, form_width, form_element, form_place, scope_by, nth_number, number_at, vector_by, table_vector, table_value, with_name, with_rows, with_forms, fixed, or_empty}
+use Rattle.tab_tree.specs.Names.{vector, Form, vector_form, array_form, Names, look, first_width, form_of, mapped, forms_of, form_width, form_element, form_place, scope_by, nth_number, number_at, vector_by, table_vector, table_value, with_name, with_rows, with_forms, fixed, or_empty}
 use Rattle.tab_tree.specs.Suits.{IsOf}
 use Rattle.obl_def.specs.Forms.{HasFormAt, AreOf}
-
--- a relation of what names stand for, name by name
-module _ {X Y : Type 0} (R : Option X → Option Y → Type 0) where
-  pub record Related (f : Names X) (g : Names Y) : Type 0 where
-    pub word : R f.word g.word
-    pub count : R f.count g.count
-    pub loaded : (j : ℕ) → R (f.loaded j) (g.loaded j)
-    pub turned : (j : ℕ) → R (f.turned j) (g.turned j)
-    pub named : (name : List ℕ) → R (f.named name) (g.named name)
-    pub register : (path : List (List ℕ)) → R (f.register path) (g.register path)
-
-  pub if_by : (b : Bool) (x u : Option X) (y v : Option Y) → R x y → R u v → R (if b then x else u) (if b then y else v)
-  if_by true x u y v p q = p
-  if_by false x u y v p q = q
-
-  else_by : (o : Option ℕ) (f : ℕ → Option X) (g : ℕ → Option Y) (x : Option X) (y : Option Y) → ((j : ℕ) → R (f j) (g j)) → R x y → R (or_else o f x) (or_else o g y)
-  else_by None f g x y p q = q
-  else_by (Some j) f g x y p q = p j
-
-  bare_by : (f : Names X) (g : Names Y) → Related f g → (name : List ℕ) → R (bare_name f name) (bare_name g name)
-  bare_by f g e name =
-      let turned = else_by (numbered 116 name) f.turned g.turned (f.named name) (g.named name) e.turned (e.named name) in
-      let loaded = else_by (numbered 100 name) f.loaded g.loaded (or_else (numbered 116 name) f.turned (f.named name)) (or_else (numbered 116 name) g.turned (g.named name)) e.loaded turned in
-      if_by (bytes_eq name (codes "i")) f.word _ g.word _ e.word (if_by (bytes_eq name (codes "k")) f.count _ g.count _ e.count loaded)
-
-  pub look_by : (f : Names X) (g : Names Y) → Related f g → (r : Ref) → R (look f r) (look g r)
-  look_by f g e r = if_by r.source (f.register r.path) (bare_name f (ref_name r)) (g.register r.path) (bare_name g (ref_name r)) (e.register r.path) (bare_by f g e (ref_name r))
+use Rattle.obl_def.proofs.Looking.{Related, if_by, look_by}
 
 related : (forms : Names Form) (names : Names StateValue) → AreOf forms names → Related HasFormAt forms names
 related forms names are = record { word = are.word; count = are.count; loaded = are.loaded; turned = are.turned; named = are.named; register = are.register }
@@ -100,6 +74,29 @@ module _ (f g : Names Form) (same : (r : Ref) → SameWidths (look f r) (look g 
     total_same no_part = refl
     total_same (one_part e times behind) = ap₂ (λ o p. joined_width (repeated_width o (fixed times)) p) (width_same e) (total_same behind)
 
+  module _ (read : Ref → ℕ → ℕ) where
+    mutual
+      pub value_same : (e : Tree) → value (scope_by f) e read ≡ value (scope_by g) e read
+      value_same (number n written at) = refl
+      value_same (whole of) = refl
+      value_same (bit of place at) = refl
+      value_same (slice of high low at) = refl
+      value_same (index of place at) = ap (read of) (value_same place)
+      value_same (concat parts at) = parts_same parts
+      value_same (negation e at) = ap₂ (λ (w : Option ℕ) (n : ℕ). inverted (or_zero w) n) (width_same e) (value_same e)
+      value_same (binary op a b at) =
+          ap₂ (λ (w : Option ℕ) (n : ℕ). operate op (or_zero w) n (value (scope_by f) b read)) (width_same a) (value_same a)
+          ∙ ap (operate op (or_zero (width (scope_by g) a)) (value (scope_by g) a read)) (value_same b)
+      value_same (choice test a b at) =
+          ap₂ (λ (n m : ℕ). cond (nat_eq n 1) m (value (scope_by f) b read)) (value_same test) (value_same a)
+          ∙ ap (cond (nat_eq (value (scope_by g) test read) 1) (value (scope_by g) a read)) (value_same b)
+
+      parts_same : (parts : Parts) → value_of_parts (scope_by f) parts read ≡ value_of_parts (scope_by g) parts read
+      parts_same no_part = refl
+      parts_same (one_part e times behind) =
+          ap₂ (λ (w : Option ℕ) (n : ℕ). joined (repeated (or_zero (fixed times)) (or_zero w) n) (or_zero (total_width (scope_by f) behind)) (value_of_parts (scope_by f) behind read)) (width_same e) (value_same e)
+          ∙ ap₂ (λ (w : Option ℕ) (n : ℕ). joined (repeated (or_zero (fixed times)) (or_zero (width (scope_by g) e)) (value (scope_by g) e read)) (or_zero w) n) (total_same behind) (parts_same behind)
+
 -- what values fit
 abbrev count_of : Option StateValue → ℕ
 count_of None = 0
@@ -141,12 +138,16 @@ module _ (numbers : (elements bits : ℕ) → NumbersElements elements bits) whe
   place_is (Some (Many xs)) k e = ((numbers (length xs) k).0 e).2
 
   module _ (forms : Names Form) (names : Names StateValue) (are : AreOf forms names) where
-    has : (r : Ref) → HasFormAt (look forms r) (look names r)
+    pub has : (r : Ref) → HasFormAt (look forms r) (look names r)
     has r = look_by HasFormAt forms names (related forms names are) r
 
-    own_widths : (e : Tree) → width (scope_by (forms_of names)) e ≡ width (scope_by forms) e
+    pub own_widths : (e : Tree) → width (scope_by (forms_of names)) e ≡ width (scope_by forms) e
     own_widths e = width_same (forms_of names) forms
         (λ r. subst (λ f. SameWidths f (look forms r)) (sym (own_form names r)) (same_widths (look forms r) (look names r) (has r))) e
+
+    pub own_values : (e : Tree) (read : Ref → ℕ → ℕ) → value (scope_by (forms_of names)) e read ≡ value (scope_by forms) e read
+    own_values e read = value_same (forms_of names) forms
+        (λ r. subst (λ f. SameWidths f (look forms r)) (sym (own_form names r)) (same_widths (look forms r) (look names r) (has r))) read e
 
     -- the vector of an expression with a width, and its fit
     pub vector_is : (e : Tree) (w : ℕ) → width (scope_by forms) e ≡ Some w → (table_vector names e ≡ Some (table_value names e)) × IsOf w (table_value names e)

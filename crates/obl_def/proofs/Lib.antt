@@ -1,5 +1,6 @@
 mod ClassForms
 mod Forms
+pub mod Looking
 mod Shown
 mod Stable
 mod Storing

@@ -13,4 +13,6 @@ mod laws;
 mod values;
 
 pub use laws::{holds_unless_violated, violated_where_it_fails};
-pub use values::{expressions_have_vectors, names_have_forms, shown_values_suit};
+pub use values::{
+    expressions_have_vectors, names_have_forms, names_have_values, shown_values_suit,
+};

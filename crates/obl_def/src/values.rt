@@ -1,13 +1,15 @@
 ghost use Rattle.std.specs.Prelude.{◌≡◌, ℕ, Bool, List, Option, Some};
 ghost use Rattle.lola_bits.specs.declared.vector.Bits.{Bits};
+ghost use Rattle.lola_tree.specs.declared.named.Ref.{Ref};
 ghost use Rattle.lola_tree.specs.Tree.{Tree, SourceTree};
 ghost use Rattle.lola_tree.specs.Width.{width};
-ghost use Rattle.lola_tree.specs.Value.{Values};
+ghost use Rattle.lola_tree.specs.Value.{Values, value};
 ghost use Rattle.lola_tree.specs.design.Cycle.{IsState, IsGiven};
 ghost use Rattle.lola_design.specs.Regular.{IsRegular};
 ghost use Rattle.tab_tree.specs.declared.value.StateValue.{StateValue};
-ghost use Rattle.tab_tree.specs.Table.{InsideTree, TableTree};
-ghost use Rattle.tab_tree.specs.Names.{Form, Names, scope_by, table_vector, table_value};
+ghost use Rattle.tab_tree.specs.declared.value.StateValue.TheVariants.{One};
+ghost use Rattle.tab_tree.specs.Table.{LetTree, InsideTree, TableTree};
+ghost use Rattle.tab_tree.specs.Names.{Form, vector_form, Names, look, mapped, scope_by, number_at, table_vector, table_value, table_number, with_forms, with_rows};
 ghost use Rattle.tab_tree.specs.Registers.{source_forms, source_names};
 ghost use Rattle.tab_tree.specs.Step.{Arch, Words, counted, link_names};
 ghost use Rattle.tab_tree.specs.Headline.{shown, shown_word, answer_of};
@@ -24,6 +26,18 @@ use lola_width::what_numbers_elements;
 /// fits it, where the names stand for values of these forms.
 pub fn expressions_have_vectors()
     ensures { (forms : Names Form) (names : Names StateValue) → AreOf forms names → (e : Tree) (w : ℕ) → width (scope_by forms) e ≡ Some w → (table_vector names e ≡ Some (table_value names e)) × IsOf w (table_value names e) }
+{
+    what_numbers_elements();
+}
+
+/// Where names stand for values of their forms, each does wherever it is looked up; an expression has the number that
+/// it has over the widths of the forms, and a vector exactly where it has a width there; and so do the names behind
+/// fields and LETs.
+pub fn names_have_values()
+    ensures each { (forms : Names Form) (names : Names StateValue) → AreOf forms names → (r : Ref) → HasFormAt (look forms r) (look names r) }
+    ensures number { (forms : Names Form) (names : Names StateValue) → AreOf forms names → (e : Tree) (w : ℕ) → width (scope_by forms) e ≡ Some w → table_number names e ≡ value (scope_by forms) e (λ r n. number_at (look names r) n) }
+    ensures vector { (forms : Names Form) (names : Names StateValue) → AreOf forms names → (e : Tree) → HasFormAt (mapped vector_form (width (scope_by forms) e)) (mapped One (table_vector names e)) }
+    ensures rows { (forms : Names Form) (names : Names StateValue) (rows : List LetTree) → AreOf forms names → AreOf (with_forms rows forms) (with_rows rows names) }
 {
     what_numbers_elements();
 }

@@ -1,0 +1,4 @@
+pub mod Copies
+pub mod Rows
+pub mod Fitting
+pub mod Meaning
