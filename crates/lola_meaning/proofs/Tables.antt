@@ -165,12 +165,12 @@ module _ (S : SourceTree) (once : (x : Path) → count x (signal_paths S) ≤ 1)
         get_inside (map (λ (s : SignalTree). s.width) F.signals) (numbers_of S x.path) (flat_width x.names x.type)
         (get_map (λ (s : SignalTree). s.width) F.signals (numbers_of S x.path) (flat_signal S x) (flat_at x there))
 
-    vector_at : (x : Signal) (w : ℕ) → IsIn x (signals S) → IsVector x.type → vector_width x.names (Some x.type) ≡ Some w → IsVectorAt W (numbers_of S x.path) w
+    pub vector_at : (x : Signal) (w : ℕ) → IsIn x (signals S) → IsVector x.type → vector_width x.names (Some x.type) ≡ Some w → IsVectorAt W (numbers_of S x.path) w
     vector_at x w there is wide =
         let t = typed_vector x.names x.type w is wide in
         record { inside = widths_inside x there; is = widths_at x there ∙ ap₂ (λ (n k : ℕ). replicate n k) t.count t.width; wide = t.wide }
 
-    array_at : (x : Signal) (w k : ℕ) → IsIn x (signals S) → IsArray x.type → element_width x.names (Some x.type) ≡ Some w → elements_width x.names (Some x.type) ≡ Some k → IsArrayAt W (numbers_of S x.path) w k
+    pub array_at : (x : Signal) (w k : ℕ) → IsIn x (signals S) → IsArray x.type → element_width x.names (Some x.type) ≡ Some w → elements_width x.names (Some x.type) ≡ Some k → IsArrayAt W (numbers_of S x.path) w k
     array_at x w k there is wide places =
         let t = typed_array numbers x.names x.type w k is wide places in
         record { inside = widths_inside x there; is = widths_at x there ∙ ap₂ (λ (n k : ℕ). replicate n k) t.count t.width; wide = t.wide; places = t.places }

@@ -1,9 +1,10 @@
 -- The values of a design as tables by the numbers of its signals: for each signal in signal order the values of its
 -- elements, of which a vector has one.
-use Rattle.std.specs.Prelude.{◌≡◌, ◌≢◌, ℕ, if◌then◌else◌, List, [], ◌∷◌, map, get_or}
+use Rattle.std.specs.Prelude.{◌≡◌, ◌≢◌, ℕ, ◌<◌, if◌then◌else◌, List, [], ◌∷◌, map, length, replicate, get_or}
 use Rattle.lola_bits.specs.Lists.{IsIn}
-use Rattle.lola_alg.specs.Means.{number_in}
+use Rattle.lola_alg.specs.Means.{IsWidth, number_in}
 use Rattle.lola_flat.specs.Numbers.{first_numbers}
+use Rattle.lola_flat.specs.Value.{Env}
 use Rattle.lola_tree.specs.Tree.{SourceTree}
 use Rattle.lola_tree.specs.Value.{Path, Values}
 use Rattle.lola_tree.specs.design.Signals.{Kind, clock, input, pad, wire, register, Signal, signals, signal_paths, elements}
@@ -81,3 +82,14 @@ input_of S given outside path n = entered_by (kind_at (signals S) path) (get_or 
 -- a table has the values of a valuation
 abbrev pub Has : SourceTree → List (List ℕ) → Values → Type 0
 Has S N v = (x : Signal) → IsIn x (signals S) → x.kind ≢ clock → get_or N (number_of (signal_paths S) x.path) [] ≡ elements_of v x
+
+-- a list stands in a table under a number
+pub record StandsAt (N : List (List ℕ)) (n : ℕ) (ns : List ℕ) : Type 0 where
+  pub inside : n < length N
+  pub is : get_or N n [] ≡ ns
+
+-- under a number stand so many widths, all of them the same
+pub record IsRowOf (W : Env ℕ) (n wide count : ℕ) : Type 0 where
+  pub inside : n < length W.signals
+  pub is : get_or W.signals n [] ≡ replicate count wide
+  pub is_width : IsWidth wide

@@ -1,16 +1,16 @@
 ghost use Rattle.std.specs.Prelude.{◌≡◌, ◌≢◌, ◌≤◌, ℕ, List, Option, Some, reverse};
 ghost use Rattle.lola_tree.specs.Tree.{Tree, ModuleTree, SourceTree};
 ghost use Rattle.lola_tree.specs.Names.{names_of};
-ghost use Rattle.lola_tree.specs.Width.{scope_of, width};
+ghost use Rattle.lola_tree.specs.Width.{vector_width, element_width, elements_width, scope_of, width};
 ghost use Rattle.lola_tree.specs.Value.{Path, Values, value};
 ghost use Rattle.lola_tree.specs.Cycle.{names_at};
 ghost use Rattle.lola_bits.specs.Lists.{IsIn};
-ghost use Rattle.lola_tree.specs.design.Signals.{clock, register, size, Signal, signals};
+ghost use Rattle.lola_tree.specs.design.Signals.{clock, register, size, Signal, signals, elements};
 ghost use Rattle.lola_tree.specs.design.Cycle.{AreSame, IsSignal, IsState, IsGiven, Cycle, Next, HasOneCycle};
 ghost use Rattle.lola_tree.specs.design.Chains.{HasLoop};
 ghost use Rattle.lola_width.specs.Sized.{IsWellSized};
 ghost use Rattle.lola_design.specs.Once.{AllOnce};
-ghost use Rattle.lola_design.specs.Regular.{AreWithin};
+ghost use Rattle.lola_design.specs.Regular.{IsVector, IsArray, AreWithin};
 ghost use Rattle.lola_regular.specs.Written.{IsWritten};
 ghost use Rattle.lola_flat.specs.Tree.{FlatTree};
 ghost use Rattle.lola_flat.specs.Value.{env, Fits};
@@ -20,7 +20,7 @@ ghost use Rattle.lola_flat.specs.Formed.{IsFormed};
 ghost use Rattle.lola_flat.specs.Cycle.{AreGiven, AreOutside, IsCycle, IsNext};
 ghost use Rattle.lola_unfold.specs.Translated.{translated};
 ghost use Rattle.lola_unfold.specs.Flat.{seen_from, numbers_of, flat_design, IsElaborated};
-ghost use Rattle.lola_meaning.specs.Tables.{table_of, given_of, outside_of, state_of, values_of, input_of, Has};
+ghost use Rattle.lola_meaning.specs.Tables.{elements_of, table_of, given_of, outside_of, state_of, values_of, input_of, Has, StandsAt, IsRowOf};
 ghost use Rattle.lola_meaning.specs.Typed.{IsTyped, AreTyped, ClockFits};
 
 use lola_design::one_path;
@@ -57,6 +57,19 @@ pub fn expressions_mean()
     ensures width { (S : SourceTree) (order : List ℕ) (m : ModuleTree) (p : Path) (e : Tree) (w : ℕ) → AllOnce (reverse S.modules) → IsTyped S m p e → width (scope_of m) e ≡ Some w → flat.width (widths_of (flat_design S order)) (translated (names_of m) (seen_from (numbers_of S) p) e) ≡ w }
     ensures fits { (S : SourceTree) (order : List ℕ) (m : ModuleTree) (p : Path) (e : Tree) (w : ℕ) → AllOnce (reverse S.modules) → IsTyped S m p e → width (scope_of m) e ≡ Some w → Fits (widths_of (flat_design S order)) (translated (names_of m) (seen_from (numbers_of S) p) e) }
     ensures value { (S : SourceTree) (order : List ℕ) (m : ModuleTree) (p : Path) (e : Tree) (w : ℕ) (N : List (List ℕ)) (outside : List ℕ) (v : Values) → AllOnce (reverse S.modules) → IsTyped S m p e → width (scope_of m) e ≡ Some w → Has S N v → AreWithin S m p v e → flat.value (widths_of (flat_design S order)) (env N outside) (translated (names_of m) (seen_from (numbers_of S) p) e) ≡ value (scope_of m) e (names_at p v) }
+{
+    one_path();
+    what_numbers_elements();
+}
+
+/// A signal of a design has its widths under its number in the flat design: a vector one, and an array that of its
+/// elements as often as there are. There it has its values in the table of a valuation, and a register in that of a
+/// state.
+pub fn signals_have_numbers()
+    ensures vector { (S : SourceTree) (order : List ℕ) (x : Signal) (w : ℕ) → AllOnce (reverse S.modules) → IsIn x (signals S) → IsVector x.type → vector_width x.names (Some x.type) ≡ Some w → IsRowOf (widths_of (flat_design S order)) (numbers_of S x.path) w 1 }
+    ensures array { (S : SourceTree) (order : List ℕ) (x : Signal) (w k : ℕ) → AllOnce (reverse S.modules) → IsIn x (signals S) → IsArray x.type → element_width x.names (Some x.type) ≡ Some w → elements_width x.names (Some x.type) ≡ Some k → IsRowOf (widths_of (flat_design S order)) (numbers_of S x.path) w (elements x.names x.type) }
+    ensures table { (S : SourceTree) (v : Values) (x : Signal) → AllOnce (reverse S.modules) → IsIn x (signals S) → x.kind ≢ clock → StandsAt (table_of S v) (numbers_of S x.path) (elements_of v x) }
+    ensures state { (S : SourceTree) (s : Values) (x : Signal) → AllOnce (reverse S.modules) → IsSignal S register x → StandsAt (state_of S s) (numbers_of S x.path) (elements_of s x) }
 {
     one_path();
     what_numbers_elements();

@@ -12,5 +12,5 @@ mod laws;
 
 pub use laws::{
     cycles_are_flat, elaborated_is_formed, expressions_mean, next_is_flat, one_clock_port,
-    one_cycle, tables_read_back, types_suit, what_is_given,
+    one_cycle, signals_have_numbers, tables_read_back, types_suit, what_is_given,
 };

@@ -1,16 +1,11 @@
 -- An expression over signals has the width and the number of the one over names.
-use Rattle.std.proofs.Common.{◌≡◌, ℕ, ◌^◌, ◌<◌, ◌≤◌, cond, List, ◌++◌, Option, Some, None, refl, sym, ◌∙◌, ap, ap₂, subst, arith, inl, inr}
-use Rattle.std.specs.Prelude.{nat_lt, nat_eq}
-use Rattle.lola_bits.specs.Lists.{IsIn}
-use Rattle.lola_bits.specs.Number.{joined, inverted, operate}
-use Rattle.lola_bits.specs.Vector.{FitsWidth}
+use Rattle.std.proofs.Common.{◌≡◌, ℕ, ◌<◌, List, Option, Some, sym, ◌∙◌, ap, subst}
 use Rattle.lola_bits.proofs.Lists.{to_map}
 use Rattle.lola_bits.proofs.Options.{nothing}
-use Rattle.lola_tree.specs.declared.named.Count.{Count}
 use Rattle.lola_tree.specs.declared.named.Ref.{Ref}
-use Rattle.lola_tree.specs.Tree.{Tree, number, whole, bit, slice, index, concat, negation, binary, choice, Parts, no_part, one_part}
-use Rattle.lola_tree.specs.Width.{Scope, width, total_width}
-use Rattle.lola_tree.specs.Value.{value, value_of_parts, or_zero, repeated}
+use Rattle.lola_tree.specs.Tree.{Tree}
+use Rattle.lola_tree.specs.Width.{Scope, width}
+use Rattle.lola_tree.specs.Value.{value, or_zero}
 use Rattle.lola_tree.specs.design.Chains.{names_in, elements_in, arrays_in}
 use Rattle.lola_flat.specs.Value.{Env}
 use Rattle.lola_flat.specs.Value as flat
@@ -20,7 +15,7 @@ use Rattle.lola_renamed.specs.Renamed.{Meant, small, renamed}
 use Rattle.lola_renamed.specs.Reads.{Among, AreRead, AreIndexed, FitsIn, Widens, Reads, AreInside}
 use Rattle.lola_renamed.proofs.Copies.{small_is}
 use Rattle.tab_tree.specs.declared.value.StateValue.{StateValue}
-use Rattle.tab_tree.specs.Names.{Form, Names, look, forms_of, scope_by, fixed, number_at, vector_by, table_value, table_number, or_empty}
+use Rattle.tab_tree.specs.Names.{Form, Names, look, scope_by, number_at, table_number}
 use Rattle.obl_def.specs.Forms.{HasFormAt, AreOf}
 use Rattle.obl_def.proofs.Looking.{look_by}
 use Rattle.tab_numbered.specs.Numbered.{numbered}

@@ -1,10 +1,8 @@
 -- One signal more for each row: the names before it keep their signals, and its own has its form and its value.
-use Rattle.std.proofs.Common.{◌≡◌, ℕ, zero, suc, ◌<◌, Bool, true, false, List, [], ◌∷◌, ◌++◌, length, get_or, Option, Some, None, refl, sym, ◌∙◌, ap, ap₂, subst, arith}
+use Rattle.std.proofs.Common.{◌≡◌, ℕ, zero, suc, ◌<◌, Bool, true, false, List, [], ◌∷◌, ◌++◌, length, get_or, Option, Some, None, refl, sym, ◌∙◌, ap, subst, arith}
 use Rattle.std.specs.Prelude.{if◌then◌else◌, bytes_eq}
 use Rattle.lola_bits.specs.declared.vector.Bits.{Bits}
-use Rattle.lola_bits.proofs.Options.{some_same, none_or_some}
 use Rattle.lola_bits.proofs.Places.{length_more}
-use Rattle.lola_tree.specs.declared.named.Ref.{Ref}
 use Rattle.lola_tree.specs.Tree.{Tree}
 use Rattle.lola_tree.specs.Width.{width}
 use Rattle.lola_flat.specs.Tree.{ExprTree}
@@ -15,10 +13,10 @@ use Rattle.lola_renamed.specs.Reads.{FitsIn}
 use Rattle.tab_tree.specs.declared.value.StateValue.{StateValue}
 use Rattle.tab_tree.specs.declared.value.StateValue.TheVariants.{One}
 use Rattle.tab_tree.specs.Table.{LetTree}
-use Rattle.tab_tree.specs.Names.{Form, vector_form, Names, mapped, scope_by, table_vector, table_number, table_value, or_empty, with_name, with_rows, with_forms}
+use Rattle.tab_tree.specs.Names.{Form, vector_form, Names, mapped, scope_by, table_vector, table_number, or_empty, with_name, with_rows, with_forms}
 use Rattle.obl_def.specs.Forms.{HasFormAt, AreOf}
 use Rattle.tab_numbered.specs.Numbered.{numbered, expr_over, row_exprs, with_numbers}
-use Rattle.tab_numbered.specs.Rows.{form_widths, value_numbers, HasRow, HasRowAt, AreRows, HoldsAt, HoldValues, more, more_widths, more_numbers}
+use Rattle.tab_numbered.specs.Rows.{HasRowAt, AreRows, HoldsAt, HoldValues, more, more_widths, more_numbers}
 
 -- a signal that stands before another keeps its elements
 get_front : (xs ys : List (List ℕ)) (n : ℕ) → n < length xs → get_or (xs ++ ys) n [] ≡ get_or xs n []

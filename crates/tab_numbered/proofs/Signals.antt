@@ -1,5 +1,5 @@
 -- What a name's signal is, by its form and its value.
-use Rattle.std.proofs.Common.{◌≡◌, ℕ, zero, suc, ◌-◌, ◌^◌, false, ◌<◌, ◌≤◌, cond, List, [], ◌∷◌, length, map, replicate, get_or, Option, Some, None, refl, sym, ◌∙◌, ap, subst, arith}
+use Rattle.std.proofs.Common.{◌≡◌, ℕ, zero, suc, ◌-◌, ◌^◌, false, ◌<◌, List, [], ◌∷◌, length, map, replicate, get_or, Option, Some, None, refl, sym, ◌∙◌, ap, subst, arith}
 use Rattle.std.specs.Prelude.{nat_eq}
 use Rattle.std.specs.List.{AllByRecursion}
 use Rattle.std.proofs.lemmas.Bool.{cond-false}
@@ -12,7 +12,6 @@ use Rattle.lola_flat.specs.Tree.{signal}
 use Rattle.lola_flat.specs.Value.{Env, elements, IsVectorOf}
 use Rattle.lola_flat.specs.Value as flat
 use Rattle.lola_tree.specs.Value.{or_zero}
-use Rattle.lola_tree.specs.Width.{place_width}
 use Rattle.lola_width.specs.Said.{NumbersElements}
 use Rattle.lola_renamed.specs.Reads.{FitsIn, IsArrayAt}
 use Rattle.tab_tree.specs.declared.value.StateValue.{StateValue}
@@ -20,7 +19,7 @@ use Rattle.tab_tree.specs.declared.value.StateValue.TheVariants.{One, Many}
 use Rattle.tab_tree.specs.Names.{Form, vector_form, array_form, form_width, form_element, form_place, nth_number, number_at}
 use Rattle.tab_tree.specs.Suits.{IsOf}
 use Rattle.obl_def.specs.Forms.{HasFormAt}
-use Rattle.tab_numbered.specs.Rows.{number_of, value_numbers, HasRowAt, HoldsAt}
+use Rattle.tab_numbered.specs.Rows.{number_of, HasRowAt, HoldsAt}
 
 -- a vector's signal
 pub vector_fits : (W : Env ℕ) (form : Option Form) (n : Option ℕ) → HasRowAt W form n → (w : ℕ) → form_width form ≡ Some w → FitsIn W (signal (or_zero n)) w
