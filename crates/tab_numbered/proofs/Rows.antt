@@ -31,7 +31,7 @@ get_last (x ∷ xs) y = get_last xs y
 inside_more : (xs : List (List ℕ)) (y : List ℕ) (n : ℕ) → n < length xs → n < length (xs ++ y ∷ [])
 inside_more xs y n within = let l = length_more xs y in omega arith
 
-row_stays : (W : Env ℕ) (y : ℕ) (form : Option Form) (n : Option ℕ) → HasRowAt W form n → HasRowAt (more W y) form n
+pub row_stays : (W : Env ℕ) (y : ℕ) (form : Option Form) (n : Option ℕ) → HasRowAt W form n → HasRowAt (more W y) form n
 row_stays W y None n has = tt
 row_stays W y (Some form) None has = absurd has
 row_stays W y (Some form) (Some n) has = record {
@@ -40,7 +40,7 @@ row_stays W y (Some form) (Some n) has = record {
   wide = has.wide;
 }
 
-held_stays : (N : Env ℕ) (y : ℕ) (a : Option StateValue) (n : Option ℕ) → HoldsAt N a n → HoldsAt (more N y) a n
+pub held_stays : (N : Env ℕ) (y : ℕ) (a : Option StateValue) (n : Option ℕ) → HoldsAt N a n → HoldsAt (more N y) a n
 held_stays N y None n holds = tt
 held_stays N y (Some a) None holds = absurd holds
 held_stays N y (Some a) (Some n) holds = (inside_more N.signals (y ∷ []) n holds.0, get_front N.signals ((y ∷ []) ∷ []) n holds.0 ∙ holds.1)
@@ -62,7 +62,7 @@ own_held N number wide None has is = tt
 own_held N number None (Some x) has is = absurd has
 own_held N number (Some w) (Some x) has is = (let l = length_more N.signals (number ∷ []) in omega arith, get_last N.signals (number ∷ []) ∙ ap (λ (k : ℕ). k ∷ []) (is w refl))
 
-chosen : {X Y : Type 0} (R : Option X → Option Y → Type 0) (b : Bool) (x u : Option X) (y v : Option Y) → R x y → R u v → R (if b then x else u) (if b then y else v)
+pub chosen : {X Y : Type 0} (R : Option X → Option Y → Type 0) (b : Bool) (x u : Option X) (y v : Option Y) → R x y → R u v → R (if b then x else u) (if b then y else v)
 chosen R true x u y v p q = p
 chosen R false x u y v p q = q
 
@@ -126,6 +126,14 @@ module _ (fitting : Fitting) (meaning : Meaning) (vectors : HaveVectors) (rows_a
         (held_behind W N forms values numbers both.rows both.are both.holds row);
     long = length_more N.signals (flat.value W N (expr_over numbers row) ∷ []) ∙ ap suc both.long ∙ sym (length_more W.signals (flat.width W (expr_over numbers row) ∷ []));
   }
+
+  pub rows_behind : (rows : List LetTree) (W : Env ℕ) (forms : Names Form) (numbers : Names ℕ) (n : ℕ) → n ≡ length W.signals → AreRows W forms numbers → AreRows (more_widths W (row_exprs rows numbers n)) (with_forms rows forms) (with_numbers rows numbers n)
+  rows_behind [] W forms numbers n is are = are
+  rows_behind (row ∷ rows) W forms numbers n is are =
+      rows_behind rows (more W (flat.width W (expr_over numbers row))) (with_name forms row.name (mapped vector_form (width (scope_by forms) row.value))) (with_name numbers row.name (Some n)) (suc n)
+      (ap suc is ∙ sym (length_more W.signals (flat.width W (expr_over numbers row) ∷ [])))
+      (subst (λ (k : ℕ). AreRows (more W (flat.width W (expr_over numbers row))) (with_name forms row.name (mapped vector_form (width (scope_by forms) row.value))) (with_name numbers row.name (Some k))) (sym is)
+      (row_behind W forms numbers are row))
 
   pub all_behind : (rows : List LetTree) (W N : Env ℕ) (forms : Names Form) (values : Names StateValue) (numbers : Names ℕ) (n : ℕ) → n ≡ length W.signals → Both W N forms values numbers →
       Both (more_widths W (row_exprs rows numbers n)) (more_numbers W N (row_exprs rows numbers n)) (with_forms rows forms) (with_rows rows values) (with_numbers rows numbers n)

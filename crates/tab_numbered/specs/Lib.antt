@@ -1,2 +1,4 @@
 pub mod Numbered
 pub mod Rows
+pub mod Classes
+pub mod Given

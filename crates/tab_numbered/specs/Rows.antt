@@ -1,13 +1,15 @@
 -- What the signals that names stand for hold: their widths are those of the names' forms, and their numbers those of
 -- the names' values. Of a name that isn't in scope nothing is asked.
-use Rattle.std.specs.Prelude.{◌≡◌, ℕ, ◌<◌, List, [], ◌∷◌, ◌++◌, map, length, replicate, Option, Some, None}
+use Rattle.std.specs.Prelude.{◌≡◌, ℕ, ◌+◌, ◌<◌, List, [], ◌∷◌, ◌++◌, map, length, replicate, Option, Some, None, slice_get}
 use Rattle.lola_bits.specs.declared.vector.Bits.{Bits}
 use Rattle.lola_alg.specs.Means.{IsWidth}
 use Rattle.lola_flat.specs.Tree.{ExprTree}
 use Rattle.lola_flat.specs.Value.{Env, env, elements, width, value}
 use Rattle.tab_tree.specs.declared.value.StateValue.{StateValue}
 use Rattle.tab_tree.specs.declared.value.StateValue.TheVariants.{One, Many}
-use Rattle.tab_tree.specs.Names.{Form, vector_form, array_form, Names}
+use Rattle.tab_tree.specs.Table.{StateTree}
+use Rattle.tab_tree.specs.Names.{Form, vector_form, array_form, shape_form, Names}
+use Rattle.tab_tree.specs.Step.{Arch}
 
 -- the widths of the elements of what has a form, and the numbers of a value
 abbrev pub form_widths : Form → List ℕ
@@ -71,3 +73,11 @@ more_widths W (e ∷ es) = more_widths (more W (width W e)) es
 abbrev pub more_numbers : Env ℕ → Env ℕ → List ExprTree → Env ℕ
 more_numbers W N [] = N
 more_numbers W N (e ∷ es) = more_numbers (more W (width W e)) (more N (value W N e)) es
+
+-- states have rows of their types by the numbers of their rows in the table, from one on; and these hold their values
+pub record HasStates (W : Env ℕ) (states : List StateTree) (numbers : ℕ → ℕ) (n : ℕ) : Type 0 where
+  pub each : (m : ℕ) (row : StateTree) → slice_get states m ≡ Some row → HasRow W (shape_form row.shape) (numbers (n + m))
+
+pub record HoldsStates (N : Env ℕ) (states : List StateTree) (A : Arch) (numbers : ℕ → ℕ) (n : ℕ) : Type 0 where
+  pub long : length A ≡ length states
+  pub each : (m : ℕ) (a : StateValue) → slice_get A m ≡ Some a → (numbers (n + m) < length N.signals) × (elements N (numbers (n + m)) ≡ value_numbers a)

@@ -8,4 +8,4 @@
 
 mod laws;
 
-pub use laws::{expressions_mean, rows_hold};
+pub use laws::{classes_are_rows, expressions_mean, rows_hold, rows_stay};
