@@ -1,5 +1,5 @@
 -- The registers that a path names, and their rows.
-use Rattle.std.proofs.Common.{◌≡◌, ◌≢◌, ℕ, zero, suc, ◌+◌, ◌^◌, ◌≤◌, Bool, true, false, List, [], ◌∷◌, ◌++◌, length, map, replicate, Option, Some, None, refl, sym, ◌∙◌, ap, ap₂, subst, arith, inl, inr}
+use Rattle.std.proofs.Common.{◌≡◌, ℕ, zero, suc, ◌+◌, Bool, true, false, List, [], ◌∷◌, ◌++◌, map, replicate, Option, Some, None, refl, sym, ◌∙◌, ap, ap₂, subst, arith, inl, inr}
 use Rattle.std.specs.Prelude.{bytes_eq, ◌&&◌, if◌then◌else◌}
 use Rattle.std.proofs.lemmas.List.{map-append}
 use Rattle.std.proofs.lemmas.Bool.{cases_Bool, and_parts}
@@ -10,26 +10,22 @@ use Rattle.lola_bits.proofs.Options.{some_same, nothing}
 use Rattle.lola_alg.specs.Means.{IsWidth}
 use Rattle.lola_flat.specs.Numbers.{first_numbers}
 use Rattle.lola_flat.specs.Value.{Env}
-use Rattle.lola_flat.specs.Value as flat
 use Rattle.lola_tree.specs.declared.named.Shape.{Shape}
 use Rattle.lola_tree.specs.declared.named.Shape.TheVariants.{Vector, Array}
 use Rattle.lola_tree.specs.Tree.{SourceTree}
 use Rattle.lola_tree.specs.Names.{Names as ModuleNames, count_number}
-use Rattle.lola_tree.specs.Width.{vector_width, element_width, elements_width}
+use Rattle.lola_tree.specs.Width.{vector_width, element_width}
 use Rattle.lola_tree.specs.Value.{Path, Values, or_zero}
 use Rattle.lola_tree.specs.design.Signals.{Kind, clock, input, pad, wire, register, Signal, signals}
 use Rattle.lola_tree.specs.design.Signals as design
-use Rattle.lola_tree.specs.design.Cycle.{IsSignal}
 use Rattle.lola_width.specs.Said.{NumbersElements}
-use Rattle.lola_values.proofs.Widths.{checked_is}
 use Rattle.lola_unfold.specs.Flat.{flat_width, flat_count, numbers_of}
-use Rattle.lola_meaning.specs.Tables.{elements_of}
 use Rattle.lola_meaning.specs.Typed.{HasWidth}
-use Rattle.lola_meaning.proofs.Tables.{TypedVector, typed_vector, TypedArray, typed_array}
+use Rattle.lola_meaning.proofs.Tables.{typed_vector, typed_array}
 use Rattle.tab_tree.specs.declared.value.StateValue.{StateValue}
 use Rattle.tab_tree.specs.declared.value.StateValue.TheVariants.{One, Many}
-use Rattle.tab_tree.specs.Names.{vector, Form, vector_form, array_form, mapped, Names}
-use Rattle.tab_tree.specs.Registers.{array_by, type_form, is_path, is_register, register_among, registers_of, elements, value_by, registers_at, source_forms, source_names}
+use Rattle.tab_tree.specs.Names.{vector, Form, vector_form, array_form, mapped}
+use Rattle.tab_tree.specs.Registers.{array_by, type_form, is_path, is_register, register_among, registers_of, elements, value_by, source_forms, source_names}
 use Rattle.tab_numbered.specs.Rows.{form_widths, wide_form, number_of, value_numbers, HasRow, HasRowAt, AreRows, HoldsAt, HoldValues}
 use Rattle.obl_rows.specs.Registers.{registers_from, HasRegisters, HoldsRegisters}
 

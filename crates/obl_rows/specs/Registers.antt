@@ -1,5 +1,5 @@
 -- The registers of a state by the numbers of signals: in a table whose rows from some number on are those of the state.
-use Rattle.std.specs.Prelude.{◌≡◌, ℕ, ◌+◌, ◌<◌, List, length, replicate, Some}
+use Rattle.std.specs.Prelude.{◌≡◌, ℕ, ◌+◌, ◌<◌, length, replicate, Some}
 use Rattle.lola_flat.specs.Value.{Env}
 use Rattle.lola_flat.specs.Value as flat
 use Rattle.lola_tree.specs.Tree.{SourceTree}

@@ -7,4 +7,4 @@
 
 mod laws;
 
-pub use laws::registers_are_rows;
+pub use laws::{registers_are_rows, what_is_shown};

@@ -1,8 +1,7 @@
 -- The names of a class have rows behind those of its fields and its LETs.
-use Rattle.std.proofs.Common.{◌≡◌, ℕ, zero, suc, ◌+◌, ◌<◌, Bool, true, false, List, [], ◌∷◌, length, Option, Some, None, refl, sym, ◌∙◌, ap, subst, arith}
-use Rattle.std.specs.Prelude.{slice_get, if◌then◌else◌, bytes_eq}
+use Rattle.std.proofs.Common.{◌≡◌, ℕ, suc, ◌+◌, ◌<◌, Bool, true, false, List, [], ◌∷◌, length, Option, Some, refl, subst, arith}
+use Rattle.std.specs.Prelude.{if◌then◌else◌, bytes_eq}
 use Rattle.lola_bits.specs.declared.vector.Bits.{Bits}
-use Rattle.lola_flat.specs.Tree.{ExprTree}
 use Rattle.lola_flat.specs.Value.{Env, elements}
 use Rattle.lola_tree.specs.Tree.{SourceTree}
 use Rattle.tab_tree.specs.declared.value.StateValue.{StateValue}
@@ -14,7 +13,7 @@ use Rattle.tab_tree.specs.Placed.{word_forms, field_forms, bare_forms, class_for
 use Rattle.obl_def.specs.Forms.{AreOf}
 use Rattle.tab_numbered.specs.Numbered.{row_exprs, with_numbers}
 use Rattle.tab_numbered.specs.Rows.{value_numbers, HasRow, HasRowAt, AreRows, HoldsAt, HoldValues, more_widths, more_numbers, HasStates, HoldsStates}
-use Rattle.tab_numbered.specs.Classes.{state_number, Given, word_numbers, field_numbers, bare_numbers, field_exprs, let_exprs, class_numbers}
+use Rattle.tab_numbered.specs.Classes.{state_number, Given, word_numbers, field_numbers, bare_numbers, field_exprs, class_numbers}
 use Rattle.tab_numbered.specs.Given.{AreGivenRows, HoldGiven, bare_names, field_widths, class_widths, class_holds}
 use Rattle.tab_numbered.proofs.Stays.{row_keeps, held_keeps, states_keep, states_held, long_keeps}
 

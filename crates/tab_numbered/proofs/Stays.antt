@@ -1,6 +1,5 @@
 -- More rows change nothing of those before them.
-use Rattle.std.proofs.Common.{◌≡◌, ℕ, suc, ◌+◌, ◌<◌, List, [], ◌∷◌, length, Option, sym, ◌∙◌, ap, arith, Some}
-use Rattle.std.specs.Prelude.{slice_get}
+use Rattle.std.proofs.Common.{◌≡◌, ℕ, suc, ◌+◌, List, [], ◌∷◌, length, Option, sym, ◌∙◌, ap, Some}
 use Rattle.lola_bits.proofs.Places.{length_more}
 use Rattle.lola_flat.specs.Tree.{ExprTree}
 use Rattle.lola_flat.specs.Value.{Env}
@@ -9,7 +8,7 @@ use Rattle.tab_tree.specs.declared.value.StateValue.{StateValue}
 use Rattle.tab_tree.specs.Table.{StateTree}
 use Rattle.tab_tree.specs.Names.{Form, shape_form, Names}
 use Rattle.tab_tree.specs.Step.{Arch}
-use Rattle.tab_numbered.specs.Rows.{HasRow, HasRowAt, AreRows, HoldsAt, HoldValues, more, more_widths, more_numbers, HasStates, HoldsStates}
+use Rattle.tab_numbered.specs.Rows.{HasRowAt, AreRows, HoldsAt, HoldValues, more, more_widths, more_numbers, HasStates, HoldsStates}
 use Rattle.tab_numbered.proofs.Rows.{row_stays, held_stays}
 
 pub row_keeps : (es : List ExprTree) (W : Env ℕ) (form : Option Form) (n : Option ℕ) → HasRowAt W form n → HasRowAt (more_widths W es) form n
