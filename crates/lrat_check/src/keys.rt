@@ -8,20 +8,20 @@ pub struct Entry {
     pub key: usize,
 }
 
-/// The key of an id. It is looked for where it stands if no id behind it is missing, then where it stands if none
-/// before it is, and else by halves.
+/// The key of an id. It is looked for where it stands if no id before it is missing, then where it stands if none
+/// behind it is, and else by halves.
 #[inline(always)]
 pub(crate) fn key_of(entries: &[Entry], last: u64, id: u64) -> Option<usize>
     requires rises { Rises 0 entries.now last }
     ensures { result ≡ key_of entries.now id }
 {
-    let distance = last.saturating_sub(id) as usize;
-    let place = entries.len().saturating_sub(distance).saturating_sub(1);
-    match key_at(entries, last, place, id) {
+    match key_at(entries, last, id.saturating_sub(1) as usize, id) {
         Some(key) => return Some(key),
         None => {}
     }
-    match key_at(entries, last, id.saturating_sub(1) as usize, id) {
+    let distance = last.saturating_sub(id) as usize;
+    let place = entries.len().saturating_sub(distance).saturating_sub(1);
+    match key_at(entries, last, place, id) {
         Some(key) => return Some(key),
         None => {}
     }

@@ -6,7 +6,7 @@
 //!
 //! All literals stand in one arena, and a clause in force has a slot that says where. Ids rise, so the list of
 //! ids with the keys of their slots grows at its end; an id is looked for where it stands if none is missing
-//! behind it, or before it, and else by halves. Which literals are set false is written by stamps, so that
+//! before it, or behind it, and else by halves. Which literals are set false is written by stamps, so that
 //! nothing has to be undone between lines, and a line costs its own literals and those of its hints. Texts and
 //! solvers are not known here, and no line is accepted that needs resolution on a literal of its own (RAT).
 #![tactic(auto)]

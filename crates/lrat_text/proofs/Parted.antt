@@ -132,10 +132,20 @@ cut_shorter byte (b ∷ bs) p e = elim (cases_Bool (nat_eq b byte)) [
   | inr f ↦ shorter_by b bs (cut byte bs) p (λ q g. cut_shorter byte bs q g) (rw f at e)
 ]
 
--- the last item, and one more, of those that are passed
-pub parted_last : (xs : List (List ℕ)) (rest line : List ℕ) → None ≡ cut 32 rest → xs ++ items_of rest ≡ items_of line → xs ++ rest ∷ [] ≡ items_of line
-parted_last xs rest line e inv = ap (λ (ys : List (List ℕ)). xs ++ ys) (sym (items_last rest e)) ∙ inv
+-- a line has some item, and more than one where it is cut
+some_cut : (o : Option (List ℕ × List ℕ)) (line : List ℕ) → items_from o line ≢ []
+some_cut None line e = absurd (omega (arith, ap length e))
+some_cut (Some p) line e = absurd (omega (arith, ap length e))
 
-pub parted_more : (xs : List (List ℕ)) (rest line front behind : List ℕ) → Some (front, behind) ≡ cut 32 rest → xs ++ items_of rest ≡ items_of line → (xs ++ front ∷ []) ++ items_of behind ≡ items_of line
-parted_more xs rest line front behind e inv =
-    append_assoc xs (front ∷ []) (items_of behind) ∙ ap (λ (ys : List (List ℕ)). xs ++ ys) (sym (items_more rest front behind e)) ∙ inv
+some_item : (line : List ℕ) → items_of line ≢ []
+some_item line e = some_cut (cut 32 line) line (sym (items_cut line) ∙ e)
+
+pub not_one : (line front behind item : List ℕ) → Some (front, behind) ≡ cut 32 line → items_of line ≢ item ∷ []
+not_one line front behind item e o = some_item behind (ap (λ (xs : List (List ℕ)). drop 1 xs) (sym (items_more line front behind e) ∙ o))
+
+pub some_left : (line : List ℕ) → nat_eq (length (items_of line)) 0 ≡ false
+some_left line = items_left (items_of line) (some_item line)
+  where
+    items_left : (xs : List (List ℕ)) → xs ≢ [] → nat_eq (length xs) 0 ≡ false
+    items_left [] h = absurd (h refl)
+    items_left (x ∷ xs) h = elim (cases_Bool (nat_eq (length (x ∷ xs)) 0)) [ inl t ↦ let q : length (x ∷ xs) ≡ 0 = (Decides-eqb (length (x ∷ xs)) 0).0 t in absurd (omega (arith, q)) | inr f ↦ f ]

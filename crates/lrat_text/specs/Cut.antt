@@ -15,3 +15,8 @@ cut byte (b ∷ bs) = cond (nat_eq b byte) (Some ([], bs)) (with_front (b ∷ []
 -- the items of a line: what stands between its blanks
 abbrev pub items_of : List ℕ → List (List ℕ)
 items_of line = slice_split (λ b. nat_eq b 32) line
+
+-- the items of what stands behind a blank, if anything does
+abbrev pub items_in : Option (List ℕ) → List (List ℕ)
+items_in None = []
+items_in (Some rest) = items_of rest

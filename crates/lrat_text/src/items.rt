@@ -1,31 +1,31 @@
-ghost use Rattle.std.specs.Prelude.{◌≡◌, List, map, IfOk};
-ghost use Rattle.lrat_text.specs.Cut.{items_of};
+ghost use Rattle.std.specs.Prelude.{◌≡◌, ◌≢◌, ◌<◌, ℕ, List, ◌∷◌, [], length};
+ghost use Rattle.std.specs.Option.{IfSome, IfNone, option_map};
+ghost use Rattle.lrat_text.specs.Cut.{items_of, items_in};
 
 use crate::cut::cut;
-use lola_bits::Memory;
-use std::alloc::Global;
 
-/// What stands between the blanks of a line.
-pub(crate) fn items_of(alloc: Global, line: &[u8]) -> Result<Vec<&[u8]>, Memory>
-    ensures { IfOk result (λ items. map (λ item. item.now) items.items ≡ items_of line.now) }
+/// The first item of a line, and what stands behind its blank, if there is one.
+#[inline(always)]
+pub(crate) fn first_item(line: &[u8]) -> (&[u8], Option<&[u8]>)
+    ensures items { items_of line.now ≡ result.0.now ∷ items_in (option_map (λ r. r.now) result.1) }
+    ensures shorter { IfSome result.1 (λ rest. length rest.now < length line.now) }
 {
-    let mut items = Vec::new(alloc);
-    let mut rest = line;
-    loop {
-        match cut(rest, b' ') {
-            None => {
-                return match items.push(rest) {
-                    Ok(()) => Ok(items),
-                    Err(_) => Err(Memory),
-                };
-            }
-            Some((item, behind)) => {
-                match items.push(item) {
-                    Ok(()) => {}
-                    Err(_) => return Err(Memory),
-                }
-                rest = behind;
-            }
-        }
+    match cut(line, b' ') {
+        None => (line, None),
+        Some((item, rest)) => (item, Some(rest)),
+    }
+}
+
+/// The item of what stands behind a blank, if it is one alone.
+pub(crate) fn one_item(rest: Option<&[u8]>) -> Option<&[u8]>
+    ensures one { IfSome result (λ item. items_in (option_map (λ r. r.now) rest.entry) ≡ item.now ∷ []) }
+    ensures other { IfNone result ((item : List ℕ) → items_in (option_map (λ r. r.now) rest.entry) ≢ item ∷ []) }
+{
+    match rest {
+        None => None,
+        Some(line) => match cut(line, b' ') {
+            None => Some(line),
+            Some(_) => None,
+        },
     }
 }

@@ -1,25 +1,34 @@
-ghost use Rattle.std.specs.Prelude.{◌≡◌, ◌≤◌, ◌++◌, List, map, drop, length, IfOk, IfSome, OnOk};
+ghost use Rattle.std.specs.Prelude.{◌≡◌, ◌++◌, List, IfOk, OnOk};
 ghost use Rattle.std.specs.Option.{option_map};
 ghost use Rattle.std.specs.List.{flat_map};
 ghost use Rattle.lrat_text.specs.Parse.{numbers};
 ghost use Rattle.lrat_text.specs.Lists.{blank_before};
+ghost use Rattle.lrat_text.specs.Cut.{items_of, items_in};
 
+use crate::items::first_item;
 use crate::number::Number;
 use lola_bits::Memory;
 use std::alloc::{AllocError, Global};
 
-/// The numbers up to the item 0, and how many items these are with the 0.
-pub(crate) fn numbers<N: Number>(
+/// For how many numbers room is made at first.
+const ROOM: usize = 16;
+
+/// The numbers of a line up to the item 0, and what stands behind it.
+pub(crate) fn numbers<'a, N: Number>(
     alloc: Global,
-    items: &[&[u8]],
-) -> Result<Option<(Vec<N>, usize)>, Memory>
-    ensures found { IfOk result (λ found. option_map (λ p. (p.0.items, drop p.1 (map (λ item. item.now) items.now))) found ≡ numbers N.reads (map (λ item. item.now) items.now)) }
-    ensures within { IfOk result (λ found. IfSome found (λ p. p.1 ≤ length items.now)) }
+    line: &'a [u8],
+) -> Result<Option<(Vec<N>, Option<&'a [u8]>)>, Memory>
+    ensures { IfOk result (λ found. option_map (λ p. (p.0.items, items_in (option_map (λ r. r.now) p.1))) found ≡ numbers N.reads (items_of line.now)) }
 {
-    let mut found: Vec<N> = Vec::new(alloc);
-    for (at, &item) in items.iter().enumerate() {
+    let mut found: Vec<N> = match Vec::with_capacity(alloc, ROOM) {
+        Ok(found) => found,
+        Err(_) => return Err(Memory),
+    };
+    let mut rest = line;
+    loop {
+        let (item, behind) = first_item(rest);
         if item == b"0".as_slice() {
-            return Ok(Some((found, at + 1)));
+            return Ok(Some((found, behind)));
         }
         match N::read(item) {
             None => return Ok(None),
@@ -28,8 +37,11 @@ pub(crate) fn numbers<N: Number>(
                 Err(_) => return Err(Memory),
             },
         }
+        match behind {
+            None => return Ok(None),
+            Some(later) => rest = later,
+        }
     }
-    Ok(None)
 }
 
 /// Appends numbers, each with a blank before it.

@@ -1,13 +1,13 @@
-ghost use Rattle.std.specs.Prelude.{◌≡◌, List, map, IfOk};
+ghost use Rattle.std.specs.Prelude.{◌≡◌, ◌∷◌, List, IfOk};
 ghost use Rattle.std.specs.Option.{option_map};
-ghost use Rattle.lrat_text.specs.Cut.{items_of};
+ghost use Rattle.lrat_text.specs.Cut.{items_of, items_in};
 ghost use Rattle.lrat_text.specs.Parse.{parse, named, ended, first, numbered, deleted, added, hinted, text_line};
 ghost use Rattle.lrat_text.specs.Number.{read_id, read_literal, read_hint};
 ghost use Rattle.lrat_text.specs.Parse.{numbers as numbers_in};
 ghost use Rattle.lrat_text.specs.Text.{is_name_byte};
 ghost use Rattle.std.specs.List.{list_all};
 
-use crate::items::items_of;
+use crate::items::{first_item, one_item};
 use crate::number::{Number, read_number};
 use crate::numbers::numbers;
 use lola_bits::{Memory, Seq};
@@ -27,41 +27,39 @@ pub enum Text<'a> {
 pub(crate) fn read_text<'a>(alloc: Global, line: &'a [u8]) -> Result<Option<Text<'a>>, Memory>
     ensures { IfOk result (λ text. option_map text_line text ≡ parse (items_of line.now)) }
 {
-    match items_of(alloc, line) {
-        Ok(items) => parse(alloc, items.as_slice()),
-        Err(fault) => Err(fault),
-    }
+    let (word, rest) = first_item(line);
+    parse(alloc, word, rest)
 }
 
-/// What the items of a line are.
-fn parse<'a>(alloc: Global, items: &[&'a [u8]]) -> Result<Option<Text<'a>>, Memory>
-    ensures { IfOk result (λ text. option_map text_line text ≡ parse (map (λ item. item.now) items.now)) }
+/// What a line is, by its first item and what stands behind it.
+fn parse<'a>(
+    alloc: Global,
+    word: &'a [u8],
+    rest: Option<&'a [u8]>,
+) -> Result<Option<Text<'a>>, Memory>
+    ensures { IfOk result (λ text. option_map text_line text ≡ parse (word.now ∷ items_in (option_map (λ r. r.now) rest.entry))) }
 {
-    match items {
-        [] => Ok(None),
-        [word, rest @ ..] => {
-            if *word == b"o".as_slice() {
-                Ok(named(rest))
-            } else if *word == b"end".as_slice() {
-                Ok(ended(rest))
-            } else if *word == b"lola-cert".as_slice() {
-                Ok(first(rest))
-            } else {
-                match u64::read(word) {
-                    None => Ok(None),
-                    Some(id) => numbered(alloc, id, rest),
-                }
-            }
+    if word == b"o".as_slice() {
+        Ok(named(rest))
+    } else if word == b"end".as_slice() {
+        Ok(ended(rest))
+    } else if word == b"lola-cert".as_slice() {
+        Ok(first(rest))
+    } else {
+        match u64::read(word) {
+            None => Ok(None),
+            Some(id) => numbered(alloc, id, rest),
         }
     }
 }
 
 /// A line of an obligation's name, behind its first item.
-fn named<'a>(items: &[&'a [u8]]) -> Option<Text<'a>>
-    ensures { option_map text_line result ≡ named (map (λ item. item.now) items.now) }
+fn named<'a>(rest: Option<&'a [u8]>) -> Option<Text<'a>>
+    ensures { option_map text_line result ≡ named (items_in (option_map (λ r. r.now) rest.entry)) }
 {
-    match items {
-        [name] => {
+    match one_item(rest) {
+        None => None,
+        Some(name) => {
             if name.len() == 0 {
                 None
             } else if is_name(name) {
@@ -70,7 +68,6 @@ fn named<'a>(items: &[&'a [u8]]) -> Option<Text<'a>>
                 None
             }
         }
-        _ => None,
     }
 }
 
@@ -90,80 +87,76 @@ fn is_name(name: &[u8]) -> bool
 }
 
 /// The last line, behind its first item.
-fn ended<'a>(items: &[&'a [u8]]) -> Option<Text<'a>>
-    ensures { option_map text_line result ≡ ended (map (λ item. item.now) items.now) }
+fn ended<'a>(rest: Option<&'a [u8]>) -> Option<Text<'a>>
+    ensures { option_map text_line result ≡ ended (items_in (option_map (λ r. r.now) rest.entry)) }
 {
-    match items {
-        [count] => match read_number(count) {
+    match one_item(rest) {
+        None => None,
+        Some(count) => match read_number(count) {
             None => None,
             Some(count) => Some(Text::Ended(count)),
         },
-        _ => None,
     }
 }
 
 /// The first line, behind its first item.
-fn first<'a>(items: &[&'a [u8]]) -> Option<Text<'a>>
-    ensures { option_map text_line result ≡ first (map (λ item. item.now) items.now) }
+fn first<'a>(rest: Option<&'a [u8]>) -> Option<Text<'a>>
+    ensures { option_map text_line result ≡ first (items_in (option_map (λ r. r.now) rest.entry)) }
 {
-    match items {
-        [one] => {
-            if *one == b"1".as_slice() {
+    match one_item(rest) {
+        None => None,
+        Some(one) => {
+            if one == b"1".as_slice() {
                 Some(Text::First)
             } else {
                 None
             }
         }
-        _ => None,
     }
 }
 
 /// A line of a refutation, behind its id.
-fn numbered<'a>(alloc: Global, id: u64, items: &[&'a [u8]]) -> Result<Option<Text<'a>>, Memory>
-    ensures { IfOk result (λ text. option_map text_line text ≡ numbered id (map (λ item. item.now) items.now)) }
+fn numbered<'a>(alloc: Global, id: u64, rest: Option<&'a [u8]>) -> Result<Option<Text<'a>>, Memory>
+    ensures { IfOk result (λ text. option_map text_line text ≡ numbered id (items_in (option_map (λ r. r.now) rest.entry))) }
 {
-    match items {
-        [] => Ok(None),
-        [word, ids @ ..] => {
-            if *word == b"d".as_slice() {
+    match rest {
+        None => Ok(None),
+        Some(line) => {
+            let (word, ids) = first_item(line);
+            if word == b"d".as_slice() {
                 deletion(alloc, id, ids)
             } else {
-                addition(alloc, id, items)
+                addition(alloc, id, line)
             }
         }
     }
 }
 
 /// A deletion, behind its mark.
-fn deletion<'a>(alloc: Global, id: u64, items: &[&'a [u8]]) -> Result<Option<Text<'a>>, Memory>
-    ensures { IfOk result (λ text. option_map text_line text ≡ deleted id (numbers_in read_id (map (λ item. item.now) items.now))) }
+fn deletion<'a>(alloc: Global, id: u64, rest: Option<&'a [u8]>) -> Result<Option<Text<'a>>, Memory>
+    ensures { IfOk result (λ text. option_map text_line text ≡ deleted id (numbers_in read_id (items_in (option_map (λ r. r.now) rest.entry)))) }
 {
-    match numbers::<u64>(alloc, items) {
-        Ok(None) => Ok(None),
-        Ok(Some((ids, at))) => {
-            if at == items.len() {
-                Ok(Some(Text::Taken(Line::Delete {
-                    id,
-                    ids: Seq::of(ids),
-                })))
-            } else {
-                Ok(None)
-            }
-        }
-        Err(fault) => Err(fault),
+    match rest {
+        None => Ok(None),
+        Some(line) => match numbers::<u64>(alloc, line) {
+            Ok(None) => Ok(None),
+            Ok(Some((_, Some(_)))) => Ok(None),
+            Ok(Some((ids, None))) => Ok(Some(Text::Taken(Line::Delete {
+                id,
+                ids: Seq::of(ids),
+            }))),
+            Err(fault) => Err(fault),
+        },
     }
 }
 
 /// An addition, behind its id.
-fn addition<'a>(alloc: Global, id: u64, items: &[&'a [u8]]) -> Result<Option<Text<'a>>, Memory>
-    ensures { IfOk result (λ text. option_map text_line text ≡ added id (numbers_in read_literal (map (λ item. item.now) items.now))) }
+fn addition<'a>(alloc: Global, id: u64, line: &'a [u8]) -> Result<Option<Text<'a>>, Memory>
+    ensures { IfOk result (λ text. option_map text_line text ≡ added id (numbers_in read_literal (items_of line.now))) }
 {
-    match numbers::<i32>(alloc, items) {
+    match numbers::<i32>(alloc, line) {
         Ok(None) => Ok(None),
-        Ok(Some((literals, at))) => {
-            let (_, rest) = items.split_at(at);
-            hinted(alloc, id, literals, rest)
-        }
+        Ok(Some((literals, rest))) => hinted(alloc, id, literals, rest),
         Err(fault) => Err(fault),
     }
 }
@@ -173,25 +166,23 @@ fn hinted<'a>(
     alloc: Global,
     id: u64,
     literals: Vec<i32>,
-    items: &[&'a [u8]],
+    rest: Option<&'a [u8]>,
 ) -> Result<Option<Text<'a>>, Memory>
-    ensures { IfOk result (λ text. option_map text_line text ≡ hinted id literals.items (numbers_in read_hint (map (λ item. item.now) items.now))) }
+    ensures { IfOk result (λ text. option_map text_line text ≡ hinted id literals.items (numbers_in read_hint (items_in (option_map (λ r. r.now) rest.entry)))) }
 {
-    match numbers::<i64>(alloc, items) {
-        Ok(None) => Ok(None),
-        Ok(Some((hints, at))) => {
-            if at == items.len() {
-                Ok(Some(Text::Taken(Line::Add {
-                    id,
-                    clause: Clause {
-                        literals: Seq::of(literals),
-                    },
-                    hints: Seq::of(hints),
-                })))
-            } else {
-                Ok(None)
-            }
-        }
-        Err(fault) => Err(fault),
+    match rest {
+        None => Ok(None),
+        Some(line) => match numbers::<i64>(alloc, line) {
+            Ok(None) => Ok(None),
+            Ok(Some((_, Some(_)))) => Ok(None),
+            Ok(Some((hints, None))) => Ok(Some(Text::Taken(Line::Add {
+                id,
+                clause: Clause {
+                    literals: Seq::of(literals),
+                },
+                hints: Seq::of(hints),
+            }))),
+            Err(fault) => Err(fault),
+        },
     }
 }

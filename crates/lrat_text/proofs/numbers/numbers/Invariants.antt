@@ -1,6 +1,10 @@
-use Rattle.std.proofs.Common.{◌≡◌, drop, map}
+use Rattle.std.proofs.Common.{◌≡◌, length}
+use Rattle.lrat_text.specs.Cut.{items_of}
 use Rattle.lrat_text.specs.Parse.{numbers, with_numbers}
 use Rattle.lrat_text.proofs.numbers.numbers.Given as goal
 
-abbrev pub invariant-loop-at : goal.invariant-loop-at
-invariant-loop-at g l = numbers g.N.Number.reads (map (λ x. x.now) l.items) ≡ with_numbers l.found.items (numbers g.N.Number.reads (map (λ x. x.now) (drop l.at l.items)))
+abbrev pub invariant-loop-item : goal.invariant-loop-item
+invariant-loop-item g l = numbers g.N.Number.reads (items_of l.line) ≡ with_numbers l.found.items (numbers g.N.Number.reads (items_of l.rest))
+
+abbrev pub decreases-loop-item : goal.decreases-loop-item
+decreases-loop-item g l = length l.rest
