@@ -71,9 +71,9 @@ impl Table {
         self.last
     }
 
-    /// Makes room for so many more clauses and literals. Where room is missing and less than half of what
-    /// stands is in force, the clauses in force move to an arena and a list of ids of their own, so the room of
-    /// the others is used again.
+    /// Makes room for so many more clauses and literals. Where room is missing and less than three quarters of
+    /// what stands is in force, the clauses in force move to an arena and a list of ids of their own, so the room
+    /// of the others is used again.
     pub(crate) fn reserve(&mut self, clauses: usize, literals: usize) -> Result<(), Memory>
         ensures force { self.new.force ≡ self.old.force }
         ensures last { self.new.last ≡ self.old.last }
@@ -110,20 +110,21 @@ impl Table {
         self.arena.capacity() - self.arena.len()
     }
 
-    /// Whether room is missing and less than half of what stands is in force.
+    /// Whether room is missing and less than three quarters of what stands is in force.
     fn is_worth_moving(&self, clauses: usize, literals: usize) -> bool
         ensures { result ≡ true → clauses ≤ self.now.spare_clauses → literals ≤ self.now.spare_literals → ⊥ }
     {
         if self.spare_literals() < literals {
-            self.live < self.arena.len() / 2
+            self.live < three_quarters(self.arena.len())
         } else if self.spare_clauses() < clauses {
-            self.slots.len() < self.entries.len() / 2
+            self.slots.len() < three_quarters(self.entries.len())
         } else {
             false
         }
     }
 
-    /// Moves the clauses in force, with no less room than there was, and room for as much again as they take.
+    /// Moves the clauses in force, with no less room than there was, and room for half as much again as they take:
+    /// when that is used up, and as much in force as now, it is worth moving again.
     fn move_live(&mut self, clauses: usize, literals: usize) -> Result<(), Memory>
         ensures force { self.new.force ≡ self.old.force }
         ensures last { self.new.last ≡ self.old.last }
@@ -132,8 +133,8 @@ impl Table {
         ensures clauses { OnOk result (clauses ≤ self.new.spare_clauses) }
         ensures literals { OnOk result (literals ≤ self.new.spare_literals) }
     {
-        let clauses = greater(greater(clauses, self.spare_clauses()), self.slots.len());
-        let literals = greater(greater(literals, self.spare_literals()), self.live);
+        let clauses = greater(greater(clauses, self.spare_clauses()), self.slots.len() / 2);
+        let literals = greater(greater(literals, self.spare_literals()), self.live / 2);
         match moved(
             self.alloc,
             &self.arena,
@@ -221,6 +222,13 @@ impl Table {
             }
         }
     }
+}
+
+/// Three quarters of a number, rounded up.
+fn three_quarters(a: usize) -> usize
+    ensures { result ≤ a }
+{
+    a - a / 4
 }
 
 /// The greater of two numbers.

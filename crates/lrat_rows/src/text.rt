@@ -1,7 +1,7 @@
 // Texts of certificates, and what is read of them part by part.
 use lola_bits::{Name, Seq};
 use lrat_check::Line;
-use lrat_text::{CertError, CertReader, CertStep};
+use lrat_text::{CertError, CertReader, CertStep, write_cert};
 use std::alloc::Global;
 use std::test::Fail;
 
@@ -88,6 +88,32 @@ fn each_front_is_truncated(rt: HostRuntime) -> Result<(), Fail> {
         }
     }
     Ok(())
+}
+
+#[test]
+fn the_end_has_the_number_of_obligations(rt: HostRuntime) -> Result<(), Fail> {
+    let six =
+        b"lola-cert 1\no cover\no reset/INVARIANT\no reset/BOUNDARY\no reset/q\no flip/0/end/INVARIANT\no flip/0/end/BOUNDARY\no flip/0/end/q\nend 6\n".as_slice();
+    let read = parts(rt.alloc(), &NAMES, six)?;
+    assert_eq!(rt; read.as_str(), "o0 o1 o2 o3 o4 o5 o6 bad 9");
+    Ok(())
+}
+
+#[test]
+fn seven_obligations_are_written(rt: HostRuntime) -> Result<(), Fail> {
+    let alloc = rt.alloc();
+    let names = names(alloc, &NAMES)?;
+    let mut proofs = Seq::new(alloc);
+    for _ in 0..7 {
+        proofs.push(Seq::new(alloc))?;
+    }
+    if proofs.items().len() == names.items().len() {
+        let text = write_cert(alloc, names.items(), proofs.items())?;
+        assert!(rt; text.as_slice() == SEVEN);
+        Ok(())
+    } else {
+        Err(Fail::from("other lengths"))
+    }
 }
 
 /// A text for the obligations a and b with what is read of it.

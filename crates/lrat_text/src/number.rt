@@ -16,6 +16,9 @@ fn next_value(value: u64, digit: u8) -> Option<u64>
         return None;
     }
     let digit = u64::from(digit - b'0');
+    if value < u64::MAX / 10 {
+        return Some(value * 10 + digit);
+    }
     if value > (u64::MAX - digit) / 10 {
         return None;
     }

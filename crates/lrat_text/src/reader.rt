@@ -1,6 +1,7 @@
-ghost use Rattle.std.specs.Prelude.{◌≡◌, ◌<◌, ◌^◌, length, false, slice_get};
+ghost use Rattle.std.specs.Prelude.{◌≡◌, ◌<◌, ◌^◌, length, slice_get};
 ghost use Rattle.lrat_text.specs.Cut.{cut, items_of};
 ghost use Rattle.lrat_text.specs.Reading.{reading, Next, NextLine, FirstLine, Told, answer_to, stands_after, shown, name_answer, end_answer};
+ghost use Rattle.lrat_text.specs.Runs.{start};
 ghost use Rattle.lrat_text.specs.Parse.{parse, text_line};
 ghost use Rattle.std.specs.Option.{option_map};
 
@@ -22,9 +23,10 @@ pub struct CertReader<'a> {
 }
 
 impl<'a> CertReader<'a> {
-    /// A reader of these bytes. Takes no memory.
+    /// A reader of these bytes before its first call: nothing is read, the number of the line just read is 0, and no
+    /// obligation has begun. Takes no memory.
     pub fn new(bytes: &'a [u8]) -> CertReader<'a>
-        ensures { reading result ≡ record { rest = bytes.now; opened = false; passed = 0; line = 0; begun = 0; failed = false } }
+        ensures { reading result ≡ start bytes.now }
     {
         CertReader {
             rest: bytes,
