@@ -1,17 +1,16 @@
 -- What the items of a line are, is what is written so.
-use Rattle.std.proofs.Common.{◌≡◌, ◌≢◌, ℕ, zero, suc, ◌+◌, ◌<◌, ℤ, true, false, nat_eq, bytes_eq, codes, decimal, List, [], ◌∷◌, ◌++◌, map, length, drop, get_or, Bor, Option, None, Some, refl, sym, ◌∙◌, ap, ap₂, subst, arith, inl, inr}
+use Rattle.std.proofs.Common.{◌≡◌, ◌≢◌, ℕ, suc, ℤ, true, false, nat_eq, bytes_eq, codes, decimal, List, [], ◌∷◌, ◌++◌, map, length, Option, None, Some, refl, sym, ◌∙◌, ap, ap₂, subst, arith, inl, inr}
 use Rattle.std.specs.Fmt.{signed_decimal}
 use Rattle.std.specs.List.{AllByRecursion, list_all}
 use Rattle.std.proofs.lemmas.Bool.{cases_Bool}
 use Rattle.std.proofs.lemmas.Bool.Decides.{Decides-eqb, not_from_Decides}
 use Rattle.std.proofs.lemmas.Slice.Eq.{bytes_eq-Decides}
-use Rattle.std.proofs.lemmas.List.{drop_more}
 use Rattle.lola_bits.proofs.Options.{some_same, nothing}
 use Rattle.lrat_check.specs.declared.clause.Clause.{Clause}
 use Rattle.lrat_check.specs.declared.line.Line.TheVariants.{Add, Delete}
 use Rattle.lrat_text.specs.Text.{TextLine, First, Named, Taken, Ended, text_items, TextFits, is_name_byte, IsId, IsLiteral, IsHint}
 use Rattle.lrat_text.specs.Number.{read_number, read_id, read_hint, read_literal}
-use Rattle.lrat_text.specs.Parse.{with_numbers, with_number, numbers, deleted, hinted, added, numbered, of_id, named, of_count, ended, first, parse}
+use Rattle.lrat_text.specs.Parse.{with_number, numbers, deleted, hinted, added, numbered, of_id, named, of_count, ended, first, parse}
 use Rattle.lrat_text.proofs.Decimals.{number_sound, number_complete, id_sound, id_complete, hint_sound, hint_complete, literal_sound, literal_complete}
 
 same_bytes : (x y : List ℕ) → bytes_eq x y ≡ true → x ≡ y
@@ -190,23 +189,3 @@ parse_complete (Taken (Add id clause hints)) f =
     id_parsed id (map signed_decimal clause.literals ++ codes "0" ∷ (map signed_decimal hints ++ codes "0" ∷ [])) f.0 ∙ addition_numbered id clause.literals (map signed_decimal hints ++ codes "0" ∷ []) f.1.0 ∙ numbered_complete id clause hints f.0 f.1.0 f.1.1
 parse_complete (Taken (Delete id ids)) f = id_parsed id (codes "d" ∷ (map decimal ids ++ codes "0" ∷ [])) f.0 ∙ ap (deleted id) (ids_complete ids [] f.1)
 parse_complete (Ended count) f = ap of_count (number_complete count f)
-
--- at the item 0 the numbers are at their end
-no_more : {N : Type 0} (xs : List N) → xs ++ [] ≡ xs
-no_more [] = refl
-no_more (x ∷ xs) = ap (λ ys. x ∷ ys) (no_more xs)
-
-drop_map : {X Y : Type 0} (f : X → Y) (n : ℕ) (xs : List X) → drop n (map f xs) ≡ map f (drop n xs)
-drop_map f zero xs = refl
-drop_map f (suc n) [] = refl
-drop_map f (suc n) (x ∷ xs) = drop_map f n xs
-
-pub numbers_here : {N : Type 0} (read : List ℕ → Option N) (passed : List N) (i : ℕ) (items : List (Bor (List ℕ))) (d : Bor (List ℕ)) → i < length items → (get_or items i d).now ≡ codes "0"
-    → numbers read (map (λ (x : Bor (List ℕ)). x.now) items) ≡ with_numbers passed (numbers read (map (λ (x : Bor (List ℕ)). x.now) (drop i items)))
-    → Some (passed, drop (i + 1) (map (λ (x : Bor (List ℕ)). x.now) items)) ≡ numbers read (map (λ (x : Bor (List ℕ)). x.now) items)
-numbers_here {N = N} read passed i items d h e inv =
-    let now = λ (x : Bor (List ℕ)). x.now in
-    let t : bytes_eq (get_or items i d).now (codes "0") ≡ true = (bytes_eq-Decides _ _).1 e in
-    let one : numbers read (map now (get_or items i d ∷ drop (i + 1) items)) ≡ Some ([], map now (drop (i + 1) items)) = rw t refl in
-    sym (inv ∙ ap (λ (xs : List (Bor (List ℕ))). with_numbers passed (numbers read (map now xs))) (drop_more items i d h) ∙ ap (with_numbers passed) one
-    ∙ ap₂ (λ (xs : List N) (ys : List (List ℕ)). Some (xs, ys)) (no_more passed) (sym (drop_map now (i + 1) items)))
