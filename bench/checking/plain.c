@@ -1,7 +1,7 @@
 // The peer: the same task in plain C, `plain CNF CERTIFICATE`. All literals stand in one arena that grows, a table by
 // id says where a clause stands, and marks are stamps. It takes a certificate of one obligation, whose name is `cnf`,
-// and looks at a line in the order of the rule of hints. Its words are those of `checking`, but that a fault of the
-// text is the line's number alone. It never gives memory back, and ids have to be below 2^31.
+// and looks at a line in the order of the rule of hints. It says `closed` or `open` with the number of lines as
+// `checking` does, and has its own words for faults. It never gives memory back, and ids have to be below 2^31.
 #include <stdint.h>
 #include <stdio.h>
 #include <stdlib.h>
