@@ -1,0 +1,4 @@
+pub mod Accepts
+pub mod Refused
+pub mod Stages
+pub mod Answer
