@@ -1,0 +1,16 @@
+//! A flat design as a net: the one lowering, over shared gates.
+//!
+//! `lower` makes the net of a well formed flat design. Its nodes are made in one order: a free node for each
+//! bit of the root's IN ports, a latch for each bit of the registers, both in signal order, then the signals
+//! in the order of equations, and then the next values of the registers in signal order. A pad makes its
+//! value, its release and then a pad node for each bit. Within a name elements go from 0 on, and bits from
+//! the highest down to bit 0. The definition `net_of` says exactly which net that is, by the steps of
+//! `lola_eval` over the algebra of `lola_gate`; two laws say what it means and how it is named.
+#![tactic(auto)]
+
+mod names;
+mod net;
+mod signals;
+mod sources;
+
+pub use net::lower;
