@@ -11,7 +11,7 @@ use Rattle.lola_gate.specs.Gates.{gates_calls, with_next}
 use Rattle.lola_flat.specs.Tree.{ExprTree, apply, ExprTrees, no_expr, one_expr, SignalTree, FlatTree}
 use Rattle.lola_flat.specs.Value.{Env, env}
 use Rattle.lola_eval.specs.Steps.{equation_step, with_vector, state_step}
-use Rattle.lola_lower.specs.Names.{path_text, bit_name, signal_names}
+use Rattle.lola_lower.specs.Names.{path_text, stem, bit_name, signal_names}
 use Rattle.lola_lower.specs.Sources.{is_pad, is_wire, source_nodes, given_literals, bits_at}
 
 -- the release and the value of a pad, whose equation chooses between what drives it from outside and its value
@@ -68,11 +68,14 @@ order_step F E (n ∷ ns) d = into (some_step E (slice_get F.signals n) d) (λ x
 abbrev pub literals_down : List (List ℕ) → List ℕ
 literals_down elements = flat_map (λ (bits : List ℕ). reverse bits) elements
 
--- names and literals side by side
-abbrev pub paired : List (List ℕ) → List ℕ → List (List ℕ × ℕ)
-paired [] literals = []
-paired (name ∷ names) [] = []
-paired (name ∷ names) (literal ∷ literals) = (name, literal) ∷ paired names literals
+-- the names and literals of a vector's bits from one on, the highest first, and of elements from one on
+abbrev pub outputs_down : List ℕ → ℕ → List ℕ → List (List ℕ × ℕ)
+outputs_down text bit [] = []
+outputs_down text bit (literal ∷ more) = outputs_down text (suc bit) more ++ (bit_name text bit, literal) ∷ []
+
+abbrev pub outputs_from : SignalTree → ℕ → List (List ℕ) → List (List ℕ × ℕ)
+outputs_from s element [] = []
+outputs_from s element (bits ∷ more) = outputs_down (stem s element) 0 bits ++ outputs_from s (suc element) more
 
 -- the bits of a port
 abbrev pub names_in : Option SignalTree → List (List ℕ)
@@ -85,7 +88,7 @@ port_names F n = names_in (slice_get F.signals n)
 -- the outputs of a port: those of an OUT port
 abbrev pub outputs_in : Option SignalTree → List (List ℕ) → List (List ℕ × ℕ)
 outputs_in None elements = []
-outputs_in (Some s) elements = cond (is_wire s.kind) (paired (signal_names s) (literals_down elements)) []
+outputs_in (Some s) elements = cond (is_wire s.kind) (outputs_from s 0 elements) []
 
 abbrev pub port_outputs : FlatTree → List (List (List ℕ)) → ℕ → List (List ℕ × ℕ)
 port_outputs F table n = outputs_in (slice_get F.signals n) (get_or table n [])

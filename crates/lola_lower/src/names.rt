@@ -32,7 +32,7 @@ pub(crate) fn path_text(alloc: Global, path: &[Name]) -> Result<String, AllocErr
 }
 
 /// What the names of an element's bits begin with.
-fn stem(alloc: Global, signal: &Signal, element: u32) -> Result<String, AllocError>
+pub(crate) fn stem(alloc: Global, signal: &Signal, element: usize) -> Result<String, AllocError>
     ensures { IfOk result (λ text. string_bytes text ≡ stem (signal_tree signal.now) element) }
 {
     let path = path_text(alloc, signal.path.items())?;
@@ -54,10 +54,8 @@ pub(crate) fn bit_name(alloc: Global, text: &str, bit: usize) -> Result<Name, Me
 fn push_down(alloc: Global, names: &mut Vec<Name>, text: &str, width: u32) -> Result<(), Memory>
     ensures { OnOk result (names.new.items ≡ names.old.items ++ names_down text.now width) }
 {
-    let mut left = width;
-    while left > 0 {
-        left -= 1;
-        names.push(bit_name(alloc, text, left as usize)?)?;
+    for place in 0..width {
+        names.push(bit_name(alloc, text, (width - 1 - place) as usize)?)?;
     }
     Ok(())
 }
@@ -71,7 +69,7 @@ pub(crate) fn push_names(
     ensures { OnOk result (names.new.items ≡ names.old.items ++ signal_names (signal_tree signal.now)) }
 {
     for element in 0..signal.count {
-        let text = stem(alloc, signal, element)?;
+        let text = stem(alloc, signal, element as usize)?;
         push_down(alloc, names, text.as_str(), signal.width)?;
     }
     Ok(())

@@ -1,9 +1,9 @@
-ghost use Rattle.std.specs.Prelude.{◌≡◌, ◌++◌, length, flat_map, Some, IfOk, OnOk};
+ghost use Rattle.std.specs.Prelude.{◌≡◌, ◌<◌, ◌+◌, ◌^◌, ◌++◌, length, reverse, flat_map, get_or, slice_get, Some, IfOk, OnOk};
 ghost use Rattle.lola_flat.specs.Tree.{flat_tree, signal_tree};
 ghost use Rattle.lola_flat.specs.Formed.{IsFormed};
-ghost use Rattle.lola_lower.specs.Steps.{literals_down, paired, port_names, outputs_in, port_outputs, clock_name, net_with, Lowers};
+ghost use Rattle.lola_lower.specs.Steps.{literals_down, outputs_down, outputs_from, port_names, outputs_in, port_outputs, clock_name, net_with, Lowers};
 
-use crate::names::{bit_name, push_names, signal_names};
+use crate::names::{bit_name, push_names, stem};
 use crate::signals::lower_order;
 use crate::sources::{add_inputs, add_latches, given_literals};
 use lola_alg::AlgError;
@@ -14,14 +14,26 @@ use lola_gate::Gates;
 use lola_net::Net;
 use std::alloc::Global;
 
+/// Puts the literals of a vector behind others, from its highest bit on.
+fn push_down(literals: &mut Vec<u32>, bits: &[u32]) -> Result<(), Memory>
+    ensures { OnOk result (literals.new.items ≡ literals.old.items ++ reverse bits.now) }
+{
+    match bits {
+        [] => Ok(()),
+        [lowest, more @ ..] => {
+            push_down(literals, more)?;
+            literals.push(*lowest)?;
+            Ok(())
+        }
+    }
+}
+
 /// Puts the literals of elements behind others, from element 0 on and each from its highest bit.
 fn push_literals(literals: &mut Vec<u32>, elements: &[Seq<u32>]) -> Result<(), Memory>
     ensures { OnOk result (literals.new.items ≡ literals.old.items ++ literals_down elements.now) }
 {
     for bits in elements {
-        for bit in bits.items().iter().rev() {
-            literals.push(*bit)?;
-        }
+        push_down(literals, bits.items())?;
     }
     Ok(())
 }
@@ -37,37 +49,71 @@ fn next_literals(alloc: Global, next: &[Seq<Seq<u32>>]) -> Result<Seq<u32>, Memo
     Ok(Seq::of(literals))
 }
 
+/// Puts the names of a port's bits behind others.
+fn push_port(
+    alloc: Global,
+    names: &mut Vec<Name>,
+    flat: &Flat,
+    port: usize,
+) -> Result<(), Memory>
+    ensures { OnOk result (names.new.items ≡ names.old.items ++ port_names (flat_tree flat.now) port) }
+{
+    match flat.signals.items().get(port) {
+        Some(signal) => push_names(alloc, names, signal),
+        None => Ok(()),
+    }
+}
+
 /// The names of the bits of all ports.
 fn port_names(alloc: Global, flat: &Flat) -> Result<Seq<Name>, Memory>
-    requires { IsFormed (flat_tree flat.now) }
     ensures { IfOk result (λ names. names ≡ flat_map (port_names (flat_tree flat.now)) flat.now.ports) }
 {
     let mut names = Vec::new(alloc);
-    for number in flat.ports.items() {
-        push_names(alloc, &mut names, &flat.signals.items()[*number as usize])?;
+    let ports = flat.ports.items();
+    for port in ports {
+        push_port(alloc, &mut names, flat, *port as usize)?;
     }
     Ok(Seq::of(names))
 }
 
-/// Puts names and literals side by side behind others.
-fn push_pairs(
+/// Puts the names and literals of a vector's bits from one on behind others, the highest first.
+fn push_bits(
+    alloc: Global,
     outputs: &mut Vec<(Name, u32)>,
-    names: Vec<Name>,
-    literals: &[u32],
+    text: &str,
+    bit: usize,
+    bits: &[u32],
 ) -> Result<(), Memory>
-    ensures { OnOk result (outputs.new.items ≡ outputs.old.items ++ paired names.items literals.now) }
+    requires { bit + length bits.now < 2 ^ 64 }
+    ensures { OnOk result (outputs.new.items ≡ outputs.old.items ++ outputs_down text.now bit bits.now) }
 {
-    let mut at = 0usize;
-    for name in names {
-        if at < literals.len() {
-            outputs.push((name, literals[at]))?;
-            at += 1;
+    match bits {
+        [] => Ok(()),
+        [literal, more @ ..] => {
+            push_bits(alloc, outputs, text, bit + 1, more)?;
+            outputs.push((bit_name(alloc, text, bit)?, *literal))?;
+            Ok(())
         }
+    }
+}
+
+/// Puts the names and literals of a signal's bits behind others.
+fn push_elements(
+    alloc: Global,
+    outputs: &mut Vec<(Name, u32)>,
+    signal: &Signal,
+    elements: &[Seq<u32>],
+) -> Result<(), Memory>
+    ensures { OnOk result (outputs.new.items ≡ outputs.old.items ++ outputs_from (signal_tree signal.now) 0 elements.now) }
+{
+    for element in 0..elements.len() {
+        let text = stem(alloc, signal, element)?;
+        push_bits(alloc, outputs, text.as_str(), 0, elements[element].items())?;
     }
     Ok(())
 }
 
-/// Puts the outputs of an OUT port behind others.
+/// Puts the outputs of a port behind others, where it is an OUT port.
 fn push_outputs(
     alloc: Global,
     outputs: &mut Vec<(Name, u32)>,
@@ -77,12 +123,27 @@ fn push_outputs(
     ensures { OnOk result (outputs.new.items ≡ outputs.old.items ++ outputs_in (Some (signal_tree signal.now)) elements.now) }
 {
     match signal.kind {
-        SigKind::Wire => {
-            let mut literals = Vec::new(alloc);
-            push_literals(&mut literals, elements)?;
-            push_pairs(outputs, signal_names(alloc, signal)?, literals.as_slice())
-        }
-        _ => Ok(()),
+        SigKind::Wire => push_elements(alloc, outputs, signal, elements),
+        SigKind::Input => Ok(()),
+        SigKind::Pad => Ok(()),
+        SigKind::Register => Ok(()),
+    }
+}
+
+/// Puts the outputs of a port by its number behind others.
+fn push_port_outputs(
+    alloc: Global,
+    outputs: &mut Vec<(Name, u32)>,
+    flat: &Flat,
+    signals: &[Seq<Seq<u32>>],
+    port: usize,
+) -> Result<(), Memory>
+    requires { length signals.now ≡ length flat.now.signals }
+    ensures { OnOk result (outputs.new.items ≡ outputs.old.items ++ port_outputs (flat_tree flat.now) signals.now port) }
+{
+    match flat.signals.items().get(port) {
+        Some(signal) => push_outputs(alloc, outputs, signal, signals[port].items()),
+        None => Ok(()),
     }
 }
 
@@ -92,19 +153,13 @@ fn outputs(
     flat: &Flat,
     signals: &[Seq<Seq<u32>>],
 ) -> Result<Seq<(Name, u32)>, Memory>
-    requires formed { IsFormed (flat_tree flat.now) }
-    requires long { length signals.now ≡ length flat.now.signals }
+    requires { length signals.now ≡ length flat.now.signals }
     ensures { IfOk result (λ outputs. outputs ≡ flat_map (port_outputs (flat_tree flat.now) signals.now) flat.now.ports) }
 {
     let mut outputs = Vec::new(alloc);
-    for number in flat.ports.items() {
-        let number = *number as usize;
-        push_outputs(
-            alloc,
-            &mut outputs,
-            &flat.signals.items()[number],
-            signals[number].items(),
-        )?;
+    let ports = flat.ports.items();
+    for port in ports {
+        push_port_outputs(alloc, &mut outputs, flat, signals, *port as usize)?;
     }
     Ok(Seq::of(outputs))
 }
@@ -127,8 +182,7 @@ fn finish(
     signals: &[Seq<Seq<u32>>],
     next: &[Seq<Seq<u32>>],
 ) -> Result<Net, Memory>
-    requires formed { IsFormed (flat_tree flat.now) }
-    requires long { length signals.now ≡ length flat.now.signals }
+    requires { length signals.now ≡ length flat.now.signals }
     ensures { IfOk result (λ net. net ≡ net_with (flat_tree flat.now) gates signals.now next.now) }
 {
     let name = Name::new(alloc, flat.root.text())?;
@@ -137,6 +191,13 @@ fn finish(
     let next = next_literals(alloc, next)?;
     let outputs = outputs(alloc, flat, signals)?;
     gates.into_net(alloc, name, clock, ports, next, outputs)
+}
+
+/// Gates hold fewer than 2^31 nodes.
+fn are_few(gates: &Gates)
+    ensures { length gates.now < 2 ^ 31 }
+{
+    let _ = gates.node_count();
 }
 
 /// The net of a well formed flat design: exactly `net_of`, whose cycles are the design's. Its nodes are the
@@ -159,11 +220,12 @@ pub fn lower(alloc: Global, flat: &Flat) -> Result<Net, AlgError>
         Ok(()) => {}
         Err(error) => return Err(error),
     }
+    are_few(&gates);
     let given = match given_literals(alloc, flat, latch) {
         Ok(given) => given,
         Err(error) => return Err(error),
     };
-    let signals = match lower_order(alloc, &mut gates, flat, given) {
+    let signals = match lower_order(alloc, &mut gates, flat, flat.order.items(), given) {
         Ok(signals) => signals,
         Err(error) => return Err(error),
     };

@@ -1,11 +1,12 @@
-ghost use Rattle.std.specs.Prelude.{◌≡◌, ◌≢◌, ◌≤◌, ◌<◌, ◌+◌, ◌/◌, ◌^◌, ◌++◌, ◌∷◌, ℕ, suc, List, [], Some, length, map, get_or, IfOk, OnOk, Err};
+ghost use Rattle.std.specs.Prelude.{◌≡◌, ◌≢◌, ◌≤◌, ◌<◌, ◌+◌, ◌/◌, ◌^◌, ◌++◌, ◌∷◌, ℕ, suc, List, [], Some, length, get_or, slice_get, IfOk, OnOk, Err};
 ghost use Rattle.std.specs.List.{AllByRecursion};
 ghost use Rattle.std.specs.Option.{option_copied};
 ghost use Rattle.lola_alg.specs.Steps.{Went};
 ghost use Rattle.lola_net.specs.declared.node.Node.{Node as NetNode};
 ghost use Rattle.lola_gate.specs.Gates.{gates_calls, gates_meaning};
-ghost use Rattle.lola_flat.specs.Tree.{ExprTree, flat_tree, signal_tree, some_tree};
-ghost use Rattle.lola_flat.specs.Value.{env, mapped, Fits};
+ghost use Rattle.lola_flat.specs.Tree.{SignalTree, flat_tree, signal_tree, some_tree, expr_trees};
+ghost use Rattle.lola_flat.specs.Value.{env};
+ghost use Rattle.lola_flat.specs.Signals.{IsSignal};
 ghost use Rattle.lola_flat.specs.Formed.{IsFormed};
 ghost use Rattle.lola_eval.specs.Steps.{equation_step};
 ghost use Rattle.lola_eval.specs.Means.{EnvKnown};
@@ -13,7 +14,7 @@ ghost use Rattle.lola_alg.specs.Gates.{KeptAll};
 ghost use Rattle.lola_alg.specs.Means.{AreKnown};
 ghost use Rattle.lola_lower.specs.Names.{path_text};
 ghost use Rattle.lola_lower.specs.Sources.{bits_at};
-ghost use Rattle.lola_lower.specs.Steps.{value_of, release_of, lowest, pads_down, pad_step, signal_step, order_step};
+ghost use Rattle.lola_lower.specs.Steps.{value_among, release_among, value_of, release_of, lowest, pads_down, pad_step, signal_step, some_step, order_step};
 ghost use Rattle.lola_lower.specs.Ready.{Suits, SignalSuits, IsReady};
 
 use crate::names::{bit_name, path_text};
@@ -25,6 +26,19 @@ use lola_flat::{FExpr, Flat, SigKind, Signal, lists_are_trees};
 use lola_gate::Gates;
 use std::alloc::Global;
 
+/// The last and the first of three arguments.
+fn ends(args: &[FExpr]) -> (Option<&FExpr>, Option<&FExpr>)
+    ensures last { some_tree (option_copied result.0) ≡ value_among (expr_trees args.now) }
+    ensures first { some_tree (option_copied result.1) ≡ release_among (expr_trees args.now) }
+{
+    match args {
+        [] => (None, None),
+        [first] => (None, Some(first)),
+        [first, _] => (None, Some(first)),
+        [first, _, last, ..] => (Some(last), Some(first)),
+    }
+}
+
 /// The value and the release of a pad.
 fn pad_parts(signal: &Signal) -> (Option<&FExpr>, Option<&FExpr>)
     ensures value { some_tree (option_copied result.0) ≡ value_of (signal_tree signal.now).equation }
@@ -32,12 +46,7 @@ fn pad_parts(signal: &Signal) -> (Option<&FExpr>, Option<&FExpr>)
 {
     lists_are_trees();
     match &signal.equation {
-        Some(FExpr::Apply { op: _, args }) => match args.items() {
-            [] => (None, None),
-            [release] => (None, Some(release)),
-            [release, _] => (None, Some(release)),
-            [release, _, value, ..] => (Some(value), Some(release)),
-        },
+        Some(FExpr::Apply { op: _, args }) => ends(args.items()),
         _ => (None, None),
     }
 }
@@ -49,7 +58,7 @@ fn lower_some(
     expr: Option<&FExpr>,
     signals: &[Seq<Seq<u32>>],
 ) -> Result<Seq<u32>, AlgError>
-    requires suits { Suits (env signals.now []) (some_tree (option_copied expr.entry)) }
+    requires suits { Suits (env signals.now []) (some_tree (option_copied expr)) }
     requires known { EnvKnown gates_meaning gates.old (env signals.now []) }
     ensures steps { Went (λ v. v) (equation_step gates_calls (env signals.now []) (some_tree (option_copied expr.entry)) gates.old) gates.new result }
     ensures kept { KeptAll gates_meaning (λ v. v) gates.old gates.new result }
@@ -179,23 +188,49 @@ fn alone(alloc: Global, item: Seq<u32>) -> Result<Seq<Seq<u32>>, AlgError>
     }
 }
 
+/// A signal of a flat design by its number.
+fn signal_at(flat: &Flat, number: usize, signal: &Signal)
+    requires within { number < length flat.now.signals }
+    requires is { signal.now ≡ get_or flat.now.signals number signal.now }
+    ensures { slice_get (flat_tree flat.now).signals number ≡ Some (signal_tree signal.now) }
+{}
+
+/// The vector of a signal by its number.
+fn lower_number(
+    alloc: Global,
+    gates: &mut Gates,
+    flat: &Flat,
+    number: usize,
+    signals: &[Seq<Seq<u32>>],
+) -> Result<Seq<u32>, AlgError>
+    requires there { number < length flat.now.signals }
+    requires suits { (s : SignalTree) → IsSignal (flat_tree flat.now) number s → SignalSuits (env signals.now []) s }
+    requires known { EnvKnown gates_meaning gates.old (env signals.now []) }
+    ensures { Went (λ v. v) (some_step (env signals.now []) (slice_get (flat_tree flat.now).signals number) gates.old) gates.new result }
+{
+    let signal = &flat.signals.items()[number];
+    signal_at(flat, number, signal);
+    lower_signal(alloc, gates, signal, signals)
+}
+
 /// The vectors of all signals, in the order of equations.
 pub(crate) fn lower_order(
     alloc: Global,
     gates: &mut Gates,
     flat: &Flat,
+    order: &[u32],
     given: Vec<Seq<Seq<u32>>>,
 ) -> Result<Vec<Seq<Seq<u32>>>, AlgError>
     requires formed { IsFormed (flat_tree flat.now) }
+    requires order { order.now ≡ flat.now.order }
     requires given { IsReady (flat_tree flat.now) [] gates.old given.items }
-    ensures steps { Went (λ v. v.items) (order_step (flat_tree flat.now) (env given.items []) flat.now.order gates.old) gates.new result }
+    ensures steps { Went (λ v. v.items) (order_step (flat_tree flat.now) (env given.items []) order.now gates.old) gates.new result }
     ensures ready { IfOk result (λ table. IsReady (flat_tree flat.now) flat.now.order gates.new table.items) }
 {
     let mut table = given;
-    for at in 0..flat.order.items().len() {
-        let number = flat.order.items()[at] as usize;
-        let signal = &flat.signals.items()[number];
-        let bits = match lower_signal(alloc, gates, signal, table.as_slice()) {
+    for at in 0..order.len() {
+        let number = order[at] as usize;
+        let bits = match lower_number(alloc, gates, flat, number, table.as_slice()) {
             Ok(bits) => bits,
             Err(error) => return Err(error),
         };

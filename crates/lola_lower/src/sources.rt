@@ -1,4 +1,4 @@
-ghost use Rattle.std.specs.Prelude.{◌≡◌, ◌≢◌, ◌≤◌, ◌<◌, ◌+◌, ◌*◌, ◌^◌, ◌++◌, List, ℕ, suc, map, length, cond, IfOk, OnOk, Err};
+ghost use Rattle.std.specs.Prelude.{◌≡◌, ◌≢◌, ◌≤◌, ◌<◌, ◌+◌, ◌*◌, ◌^◌, ◌++◌, List, ℕ, suc, map, length, IfOk, OnOk, Err};
 ghost use Rattle.lola_net.specs.declared.node.Node.TheVariants.{Free, Latch};
 ghost use Rattle.lola_flat.specs.Tree.{flat_tree, signal_tree};
 ghost use Rattle.lola_lower.specs.Sources.{is_alone, is_clock_path, is_input, is_register, has_input, has_latch, input_nodes, latch_nodes, all_inputs, all_latches, source_nodes, bits_at, elements_at, given_row, given_from};
@@ -120,7 +120,8 @@ pub(crate) fn add_inputs(alloc: Global, gates: &mut Gates, flat: &Flat) -> Resul
     ensures ok { OnOk result (gates.new ≡ gates.old ++ all_inputs (flat_tree flat.now)) }
     ensures err { result ≢ Err AlgError.Full }
 {
-    for signal in flat.signals.items() {
+    let signals = flat.signals.items();
+    for signal in signals {
         match add_input(alloc, gates, flat, signal) {
             Ok(()) => {}
             Err(error) => return Err(error),
@@ -134,7 +135,8 @@ pub(crate) fn add_latches(alloc: Global, gates: &mut Gates, flat: &Flat) -> Resu
     ensures ok { OnOk result (gates.new ≡ gates.old ++ all_latches (flat_tree flat.now)) }
     ensures err { result ≢ Err AlgError.Full }
 {
-    for signal in flat.signals.items() {
+    let signals = flat.signals.items();
+    for signal in signals {
         match add_latch(alloc, gates, signal) {
             Ok(()) => {}
             Err(error) => return Err(error),
@@ -150,10 +152,8 @@ pub(crate) fn bits_at(alloc: Global, first: u32, width: u32) -> Result<Seq<u32>,
     ensures err { result ≢ Err AlgError.Full }
 {
     let mut bits = Vec::new(alloc);
-    let mut left = width;
-    while left > 0 {
-        left -= 1;
-        if let Err(_) = bits.push(2 * (first + left)) {
+    for place in 0..width {
+        if let Err(_) = bits.push(2 * (first + (width - 1 - place))) {
             return Err(AlgError::Memory);
         }
     }
@@ -173,9 +173,7 @@ fn elements_at(
 {
     let mut elements = Vec::new(alloc);
     let mut next = first;
-    let mut left = count;
-    while left > 0 {
-        left -= 1;
+    for element in 0..count {
         let bits = match bits_at(alloc, next, width) {
             Ok(bits) => bits,
             Err(error) => return Err(error),
@@ -210,12 +208,24 @@ fn given_row(
     }
 }
 
-/// The number of nodes of a signal.
-fn size(signal: &Signal, among: bool) -> u32
-    requires { signal.now.count * signal.now.width < 2 ^ 32 }
-    ensures { result ≡ cond among (signal.now.count * signal.now.width) 0 }
+/// The number of nodes that a signal has as an input.
+fn input_size(flat: &Flat, signal: &Signal) -> u32
+    requires { length (input_nodes (flat_tree flat.now) (signal_tree signal.now)) < 2 ^ 32 }
+    ensures { result ≡ length (input_nodes (flat_tree flat.now) (signal_tree signal.now)) }
 {
-    if among {
+    if has_input(flat, signal) {
+        signal.count * signal.width
+    } else {
+        0
+    }
+}
+
+/// The number of nodes that a signal has as a register.
+fn latch_size(signal: &Signal) -> u32
+    requires { length (latch_nodes (signal_tree signal.now)) < 2 ^ 32 }
+    ensures { result ≡ length (latch_nodes (signal_tree signal.now)) }
+{
+    if has_latch(signal) {
         signal.count * signal.width
     } else {
         0
@@ -237,7 +247,8 @@ pub(crate) fn given_literals(
     let mut table = Vec::new(alloc);
     let mut input = 1;
     let mut latch = first;
-    for signal in flat.signals.items() {
+    let signals = flat.signals.items();
+    for signal in signals {
         let row = match given_row(alloc, flat, input, latch, signal) {
             Ok(row) => row,
             Err(error) => return Err(error),
@@ -245,8 +256,8 @@ pub(crate) fn given_literals(
         if let Err(_) = table.push(row) {
             return Err(AlgError::Memory);
         }
-        input += size(signal, has_input(flat, signal));
-        latch += size(signal, has_latch(signal));
+        input += input_size(flat, signal);
+        latch += latch_size(signal);
     }
     Ok(table)
 }
