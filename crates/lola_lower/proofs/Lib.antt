@@ -5,3 +5,7 @@ pub mod Grown
 pub mod Given
 pub mod Loops
 pub mod Whole
+pub mod Growth
+pub mod Bits
+pub mod Started
+pub mod Rows

@@ -208,7 +208,7 @@ stays_ordered d e some order stays = elim (known_from e 2 (stays 2 (known_node d
 constant_bit : (l : ℕ) → knows_literal [] l ≡ true → knows_constant [] l ≡ true
 constant_bit l k = let h = known_within [] l k in low_known [] l (omega arith)
 
-constant_all : (E : Env (List ℕ)) → EnvKnown gates_meaning [] E → EnvKnown constants [] E
+pub constant_all : (E : Env (List ℕ)) → EnvKnown gates_meaning [] E → EnvKnown constants [] E
 constant_all E known = record {
   signals = all_weaker (AllByRecursion (AreKnown gates_meaning [])) (AllByRecursion (AreKnown constants [])) (λ vectors. all_weaker (AreKnown gates_meaning []) (AreKnown constants []) each vectors) E.signals known.signals;
   outside = all_weaker (AreKnown gates_meaning []) (AreKnown constants []) each E.outside known.outside;
