@@ -1,5 +1,5 @@
 -- The nodes before the signals, and the literals of their bits.
-use Rattle.std.proofs.Common.{◌≡◌, ◌≢◌, ◌⊎◌, ℕ, zero, suc, ◌+◌, ◌*◌, ◌-◌, ◌<◌, ◌≤◌, Bool, true, false, cond, not, ◌&&◌, List, [], ◌∷◌, ◌++◌, length, map, flat_map, replicate, get_or, Option, Some, None, inl, inr, refl, sym, ◌∙◌, ap, ap₂, subst, arith}
+use Rattle.std.proofs.Common.{◌≡◌, ◌≢◌, ◌⊎◌, ℕ, zero, suc, ◌+◌, ◌*◌, ◌-◌, ◌<◌, ◌≤◌, Bool, true, false, cond, not, ◌&&◌, List, [], ◌∷◌, ◌++◌, length, map, flat_map, replicate, drop, get_or, Option, Some, None, inl, inr, refl, sym, ◌∙◌, ap, ap₂, subst, arith}
 use Rattle.std.specs.Prelude.{slice_get, nat_eq, nat_lt, bytes_eq, ◌/◌}
 use Rattle.std.specs.List.{AllByRecursion}
 use Rattle.std.proofs.lemmas.Bool.{cases_Bool, and_from, and_parts, eqb-true, lt-ltb}
@@ -7,7 +7,7 @@ use Rattle.std.proofs.lemmas.Slice.Eq.{bytes_eq-Decides}
 use Rattle.lola_bits.specs.Lists.{IsIn}
 use Rattle.lola_bits.proofs.Options.{some_same}
 use Rattle.lola_bits.proofs.All.{all_append, all_weaker}
-use Rattle.lola_bits.proofs.Places.{length_more}
+use Rattle.lola_bits.proofs.Places.{drop_item}
 use Rattle.lola_alg.specs.Means.{AreKnown}
 use Rattle.lola_net.specs.declared.node.Node.{Node}
 use Rattle.lola_net.specs.declared.node.Node.TheVariants.{Free, Latch, Pad, Gate}
@@ -16,7 +16,8 @@ use Rattle.lola_gate.specs.Gates.{gates_meaning, knows_literal}
 use Rattle.lola_gate.specs.Law.{known_node}
 use Rattle.lola_flat.specs.declared.design.SigKind.TheVariants.{Input, Register}
 use Rattle.lola_flat.specs.Numbers.{first_numbers}
-use Rattle.lola_flat.specs.Tree.{SignalTree, FlatTree}
+use Rattle.lola_flat.specs.Tree.{SignalTree, signal_tree, FlatTree}
+use Rattle.lola_flat.specs.declared.design.Signal.{Signal as FlatSignal}
 use Rattle.lola_flat.specs.Value.{env}
 use Rattle.lola_flat.specs.Signals.{IsSignal, IsClock}
 use Rattle.lola_eval.specs.Means.{IsWideAs, EnvKnown}
@@ -184,3 +185,12 @@ given_ready F =
       known = record { signals = given_known (source_nodes F) (sources_are_ordered F) F 1 (suc (length (all_inputs F))) F.signals (omega arith) (omega arith); outside = tt };
       wide = λ k s is clock kind. given_wide F 1 (suc (length (all_inputs F))) F.signals k s is clock (elim kind [ inl i ↦ inl i | inr r ↦ elim r [ inl g ↦ inr g | inr none ↦ absurd none ] ]);
     }
+
+-- the loop over signals
+module _ (xs : List FlatSignal) (i : ℕ) (x : FlatSignal) (within : i < length xs) (is : x ≡ get_or xs i x) where
+  pub nodes_left : (f : SignalTree → List Node) → length (flat_map f (map signal_tree (drop i xs))) ≡ length (f (signal_tree x)) + length (flat_map f (map signal_tree (drop (i + 1) xs)))
+  nodes_left f = ap (λ l. length (flat_map f (map signal_tree l))) (drop_item xs i x within is) ∙ length_both (f (signal_tree x)) (flat_map f (map signal_tree (drop (i + 1) xs)))
+
+  pub rows_left : (F : FlatTree) (input latch : ℕ) → given_from F input latch (map signal_tree (drop i xs)) ≡
+      given_row F input latch (signal_tree x) ∷ given_from F (input + length (input_nodes F (signal_tree x))) (latch + length (latch_nodes (signal_tree x))) (map signal_tree (drop (i + 1) xs))
+  rows_left F input latch = ap (λ l. given_from F input latch (map signal_tree l)) (drop_item xs i x within is)

@@ -9,3 +9,6 @@ pub mod Growth
 pub mod Bits
 pub mod Started
 pub mod Rows
+pub mod Carried
+pub mod Shown
+pub mod Followed

@@ -38,7 +38,7 @@ elements_long w (n ∷ ns) =
 
 pub element_numbers : (w : ℕ) (ns : List ℕ) → AllByRecursion (λ n. n < 2 ^ w) ns → (front behind : List Bool) → numbers_by (front ++ (element_bits w ns ++ behind)) (elements_at (suc (length front)) w (length ns)) ≡ ns
 element_numbers w [] below front behind = refl
-element_numbers w (n ∷ ns) below front behind = ap₂ (λ m ms. m ∷ ms) here more
+element_numbers w (n ∷ ns) below front behind = ap₂ (λ m ms. m ∷ ms) here (more (element_numbers w ns below.1 (front ++ bits_down w n) behind))
   where
     V : List Bool
     V = front ++ ((bits_down w n ++ element_bits w ns) ++ behind)
@@ -52,11 +52,11 @@ element_numbers w (n ∷ ns) below front behind = ap₂ (λ m ms. m ∷ ms) here
         ∙ ap (λ k. number_by (front ++ (bits_down w n ++ (element_bits w ns ++ behind))) (bits_at (suc (length front)) k)) (sym (down_long w n))
         ∙ ap number_of (literals_are front (bits_down w n) (element_bits w ns ++ behind)) ∙ number_down w n below.0
 
-    more : numbers_by V (elements_at (suc (length front) + w) w (length ns)) ≡ ns
-    more =
+    more : numbers_by ((front ++ bits_down w n) ++ (element_bits w ns ++ behind)) (elements_at (suc (length (front ++ bits_down w n))) w (length ns)) ≡ ns → numbers_by V (elements_at (suc (length front) + w) w (length ns)) ≡ ns
+    more h =
         let long : suc (length front) + w ≡ suc (length (front ++ bits_down w n)) = (let a = length_both front (bits_down w n) in let b = down_long w n in omega arith) in
         ap₂ (λ (W : List Bool) k. numbers_by W (elements_at k w (length ns))) (sym split ∙ sym (append_assoc front (bits_down w n) (element_bits w ns ++ behind))) long
-        ∙ element_numbers w ns below.1 (front ++ bits_down w n) behind
+        ∙ h
 
 module _ (F : FlatTree) (V : List Bool) where
   -- the rows of signals, where inputs and registers have their elements

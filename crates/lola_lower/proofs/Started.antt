@@ -60,6 +60,9 @@ length_both : {X : Type 0} (xs ys : List X) → length (xs ++ ys) ≡ length xs 
 length_both [] ys = omega arith
 length_both (x ∷ xs) ys = let h = length_both xs ys in omega arith
 
+abbrev bits_if : Bool → ℕ → List ℕ → List Bool
+bits_if t width ns = cond t (element_bits width ns) []
+
 -- what comes into all inputs, and into all registers
 module _ (F : FlatTree) where
   pub inputs_take : (signals : List SignalTree) (table : List (List ℕ)) → length table ≡ length signals →
@@ -68,24 +71,16 @@ module _ (F : FlatTree) where
       values_after (sources state (bits_of (has_input F) signals table ++ more) outside) so (flat_map (input_nodes F) signals ++ ys) ≡ values_after (sources state more outside) (so ++ bits_of (has_input F) signals table) ys
   inputs_take [] table long have state more outside so ys = ap (λ l. values_after (sources state more outside) l ys) (sym (append-nil so))
   inputs_take (x ∷ signals) [] long have state more outside so ys = absurd (omega arith)
-  inputs_take (x ∷ signals) (ns ∷ table) long have state more outside so ys = by (has_input F x) refl
+  inputs_take (x ∷ signals) (ns ∷ table) long have state more outside so ys =
+      ap₂ (λ (i : List Bool) (n : List Node). values_after (sources state i outside) so n) (append_assoc (bits_if (has_input F x) x.width ns) (bits_of (has_input F) signals table) more)
+      (append_assoc (cond (has_input F x) (map (λ (name : List ℕ). Free name) (signal_names x)) []) (flat_map (input_nodes F) signals) ys)
+      ∙ here (has_input F x) refl (bits_of (has_input F) signals table ++ more) (flat_map (input_nodes F) signals ++ ys)
+      ∙ inputs_take signals table (omega arith) (λ j. have (suc j)) state more outside (so ++ bits_if (has_input F x) x.width ns) ys
+      ∙ ap (λ l. values_after (sources state more outside) l ys) (append_assoc so (bits_if (has_input F x) x.width ns) (bits_of (has_input F) signals table))
     where
-      abbrev A : Bool → List Bool
-      A t = cond t (element_bits x.width ns) []
-
-      here : (t : Bool) → has_input F x ≡ t → (tail : List Bool) (zs : List Node) → values_after (sources state (A t ++ tail) outside) so (cond t (map (λ (name : List ℕ). Free name) (signal_names x)) [] ++ zs) ≡ values_after (sources state tail outside) (so ++ A t) zs
+      here : (t : Bool) → has_input F x ≡ t → (tail : List Bool) (zs : List Node) → values_after (sources state (bits_if t x.width ns ++ tail) outside) so (cond t (map (λ (name : List ℕ). Free name) (signal_names x)) [] ++ zs) ≡ values_after (sources state tail outside) (so ++ bits_if t x.width ns) zs
       here true e tail zs = frees_take (signal_names x) (element_bits x.width ns) (have 0 x refl e) state tail outside so zs
       here false e tail zs = ap (λ l. values_after (sources state tail outside) l zs) (sym (append-nil so))
-
-      by : (t : Bool) → has_input F x ≡ t →
-          values_after (sources state ((A (has_input F x) ++ bits_of (has_input F) signals table) ++ more) outside) so ((cond (has_input F x) (map (λ (name : List ℕ). Free name) (signal_names x)) [] ++ flat_map (input_nodes F) signals) ++ ys)
-          ≡ values_after (sources state more outside) (so ++ (A (has_input F x) ++ bits_of (has_input F) signals table)) ys
-      by t e =
-          ap₂ (λ (i : List Bool) (n : List Node). values_after (sources state i outside) so n) (append_assoc (A (has_input F x)) (bits_of (has_input F) signals table) more)
-          (append_assoc (cond (has_input F x) (map (λ (name : List ℕ). Free name) (signal_names x)) []) (flat_map (input_nodes F) signals) ys)
-          ∙ here (has_input F x) refl (bits_of (has_input F) signals table ++ more) (flat_map (input_nodes F) signals ++ ys)
-          ∙ inputs_take signals table (omega arith) (λ j. have (suc j)) state more outside (so ++ A (has_input F x)) ys
-          ∙ ap (λ l. values_after (sources state more outside) l ys) (append_assoc so (A (has_input F x)) (bits_of (has_input F) signals table))
 
   pub registers_take : (signals : List SignalTree) (table : List (List ℕ)) → length table ≡ length signals →
       ((k : ℕ) (s : SignalTree) → slice_get signals k ≡ Some s → has_latch s ≡ true → length (element_bits s.width (get_or table k [])) ≡ length (signal_names s)) →
@@ -94,15 +89,12 @@ module _ (F : FlatTree) where
   registers_take [] table long have inputs more outside so ys = ap (λ l. values_after (sources more inputs outside) l ys) (sym (append-nil so))
   registers_take (x ∷ signals) [] long have inputs more outside so ys = absurd (omega arith)
   registers_take (x ∷ signals) (ns ∷ table) long have inputs more outside so ys =
-      ap₂ (λ (i : List Bool) (n : List Node). values_after (sources i inputs outside) so n) (append_assoc (A (has_latch x)) (bits_of has_latch signals table) more)
+      ap₂ (λ (i : List Bool) (n : List Node). values_after (sources i inputs outside) so n) (append_assoc (bits_if (has_latch x) x.width ns) (bits_of has_latch signals table) more)
       (append_assoc (cond (has_latch x) (map (λ (name : List ℕ). Latch name 0) (signal_names x)) []) (flat_map latch_nodes signals) ys)
       ∙ here (has_latch x) refl (bits_of has_latch signals table ++ more) (flat_map latch_nodes signals ++ ys)
-      ∙ registers_take signals table (omega arith) (λ j. have (suc j)) inputs more outside (so ++ A (has_latch x)) ys
-      ∙ ap (λ l. values_after (sources more inputs outside) l ys) (append_assoc so (A (has_latch x)) (bits_of has_latch signals table))
+      ∙ registers_take signals table (omega arith) (λ j. have (suc j)) inputs more outside (so ++ bits_if (has_latch x) x.width ns) ys
+      ∙ ap (λ l. values_after (sources more inputs outside) l ys) (append_assoc so (bits_if (has_latch x) x.width ns) (bits_of has_latch signals table))
     where
-      abbrev A : Bool → List Bool
-      A t = cond t (element_bits x.width ns) []
-
-      here : (t : Bool) → has_latch x ≡ t → (tail : List Bool) (zs : List Node) → values_after (sources (A t ++ tail) inputs outside) so (cond t (map (λ (name : List ℕ). Latch name 0) (signal_names x)) [] ++ zs) ≡ values_after (sources tail inputs outside) (so ++ A t) zs
+      here : (t : Bool) → has_latch x ≡ t → (tail : List Bool) (zs : List Node) → values_after (sources (bits_if t x.width ns ++ tail) inputs outside) so (cond t (map (λ (name : List ℕ). Latch name 0) (signal_names x)) [] ++ zs) ≡ values_after (sources tail inputs outside) (so ++ bits_if t x.width ns) zs
       here true e tail zs = latches_take (signal_names x) (element_bits x.width ns) (have 0 x refl e) inputs tail outside so zs
       here false e tail zs = ap (λ l. values_after (sources tail inputs outside) l zs) (sym (append-nil so))

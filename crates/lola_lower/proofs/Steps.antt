@@ -82,8 +82,38 @@ module _ (F : FlatTree) (formed : IsFormed F) (before after : List ℕ) (n : ℕ
         wide_there k fits.0 (array_of k) refl fits.1.0 read (inr (inl (its_kind F k fits.0 Register fits.1.0 (of_all (IsReadyBehind F before) (array_of k) (reads e) uses read))))
     wide_read (outside_of k) read inside = absurd inside
 
+    -- a signal that is read is there, and ready
+    pub record IsThere (k : ℕ) : Type 0 where
+      pub signal : SignalTree
+      pub there : IsSignal F k signal
+      pub no_clock_is : IsClock F signal → ⊥
+      pub kind : (signal.kind ≡ Input) ⊎ ((signal.kind ≡ Register) ⊎ IsIn k before)
+
+    pub vector_there : (k : ℕ) → IsIn (vector_of k) (reads e) → IsThere k
+    vector_there k read =
+        let fits = of_all (ReadFits F) (vector_of k) (reads e) ((formed.signals n s is).reads e among) read in record {
+          signal = fits.0;
+          there = fits.1.0;
+          no_clock_is = no_clock F formed n s e is among k fits.0 fits.1.0 (to_map number_read (vector_of k) (reads e) read);
+          kind = by fits.0 fits.1.0 (of_all (IsReadyBehind F before) (vector_of k) (reads e) uses read);
+        }
+      where
+        by : (t : SignalTree) → IsSignal F k t → IsReadyBehind F before (vector_of k) → (t.kind ≡ Input) ⊎ ((t.kind ≡ Register) ⊎ IsIn k before)
+        by t there (inl i) = inl (its_kind F k t Input there i)
+        by t there (inr (inl i)) = inr (inl (its_kind F k t Register there i))
+        by t there (inr (inr i)) = inr (inr i)
+
+    pub array_there : (k : ℕ) → IsIn (array_of k) (reads e) → IsThere k
+    array_there k read =
+        let fits = of_all (ReadFits F) (array_of k) (reads e) ((formed.signals n s is).reads e among) read in record {
+          signal = fits.0;
+          there = fits.1.0;
+          no_clock_is = no_clock F formed n s e is among k fits.0 fits.1.0 (to_map number_read (array_of k) (reads e) read);
+          kind = inr (inl (its_kind F k fits.0 Register fits.1.0 (of_all (IsReadyBehind F before) (array_of k) (reads e) uses read)));
+        }
+
     module _ (f : ExprTree) (part : (r : Read) → IsIn r (reads f) → IsIn r (reads e)) (inside : AllByRecursion NotOutside (reads f)) where
-      same : AllByRecursion (HaveSame (widths_of F) (mapped length (env table []))) (reads f)
+      pub same : AllByRecursion (HaveSame (widths_of F) (mapped length (env table []))) (reads f)
       same = all_of (HaveSame (widths_of F) (mapped length (env table []))) (reads f) (λ r read. wide_read r (part r read) (of_all NotOutside r (reads f) inside read))
 
       pub part_fits : Fits (widths_of F) f → Fits (mapped length (env table [])) f
@@ -170,6 +200,9 @@ pads_long text release bit (value ∷ more) = length_more (pads_down text releas
 length_both : {X : Type 0} (xs ys : List X) → length (xs ++ ys) ≡ length xs + length ys
 length_both [] ys = omega arith
 length_both (x ∷ xs) ys = let h = length_both xs ys in omega arith
+
+pub pads_count : (d : List Node) (text : List ℕ) (release : ℕ) (values : List ℕ) → length (d ++ pads_down text release 0 values) ≡ length d + length values
+pads_count d text release values = length_both d (pads_down text release 0 values) ∙ ap (λ k. length d + k) (pads_long text release 0 values)
 
 pub bits_long : (first width : ℕ) → length (bits_at first width) ≡ width
 bits_long first zero = refl

@@ -1,5 +1,5 @@
 -- The numbers of a flat design as the bits of its net, and that the cycles of both are the same.
-use Rattle.std.specs.Prelude.{◌≡◌, ℕ, zero, suc, Bool, cond, nat_eq, List, [], ◌∷◌, ◌++◌, map, flat_map, get_or, Option, Some, None, slice_get}
+use Rattle.std.specs.Prelude.{◌≡◌, ℕ, zero, suc, Bool, cond, nat_eq, List, [], ◌∷◌, ◌++◌, flat_map, get_or, Option, Some, None, slice_get}
 use Rattle.lola_bits.specs.Number.{bit_at}
 use Rattle.lola_net.specs.declared.net.Net.{Net}
 use Rattle.lola_net.specs.Run.{cycle_of}
@@ -46,9 +46,13 @@ output_bits F table = flat_map (bits_at_number (λ (s : SignalTree). is_wire s.k
 abbrev pub pad_bits : FlatTree → List (List ℕ) → List Bool
 pad_bits F table = flat_map (bits_at_number (λ (s : SignalTree). is_pad s.kind) F table) F.order
 
--- what comes from outside, one number for each pad
+-- what comes from outside, one number for each pad, in the same order
+abbrev pub outside_in : Option SignalTree → ℕ → List Bool
+outside_in None n = []
+outside_in (Some s) n = cond (is_pad s.kind) (bits_down s.width n) []
+
 abbrev pub outside_bits : FlatTree → List ℕ → List Bool
-outside_bits F outside = pad_bits F (map (λ (n : ℕ). n ∷ []) outside)
+outside_bits F outside = flat_map (λ (n : ℕ). outside_in (slice_get F.signals n) (get_or outside n 0)) F.order
 
 -- in the bits of what a design is given, the net shows the bits of the design's cycle, and of the state behind it
 pub record HasCycles (F : FlatTree) (net : Net) : Type 0 where

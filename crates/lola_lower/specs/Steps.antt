@@ -15,25 +15,23 @@ use Rattle.lola_lower.specs.Names.{path_text, stem, bit_name, signal_names}
 use Rattle.lola_lower.specs.Sources.{is_pad, is_wire, source_nodes, given_literals, bits_at}
 
 -- the release and the value of a pad, whose equation chooses between what drives it from outside and its value
-abbrev pub release_among : ExprTrees → Option ExprTree
-release_among no_expr = None
-release_among (one_expr release more) = Some release
+abbrev pub first_among : ExprTrees → Option ExprTree
+first_among no_expr = None
+first_among (one_expr first more) = Some first
 
-abbrev pub value_among : ExprTrees → Option ExprTree
-value_among no_expr = None
-value_among (one_expr release no_expr) = None
-value_among (one_expr release (one_expr outside no_expr)) = None
-value_among (one_expr release (one_expr outside (one_expr value more))) = Some value
+abbrev pub others_among : ExprTrees → ExprTrees
+others_among no_expr = no_expr
+others_among (one_expr first more) = more
 
 abbrev pub arguments_of : Option ExprTree → ExprTrees
 arguments_of (Some (apply o args)) = args
 arguments_of other = no_expr
 
 abbrev pub release_of : Option ExprTree → Option ExprTree
-release_of equation = release_among (arguments_of equation)
+release_of equation = first_among (arguments_of equation)
 
 abbrev pub value_of : Option ExprTree → Option ExprTree
-value_of equation = value_among (arguments_of equation)
+value_of equation = first_among (others_among (others_among (arguments_of equation)))
 
 -- a pad node for each bit of a value from one on, the highest first
 abbrev pub pads_down : List ℕ → ℕ → ℕ → List ℕ → List Node

@@ -4,7 +4,7 @@ ghost use Rattle.lola_flat.specs.Formed.{IsFormed};
 ghost use Rattle.lola_lower.specs.Steps.{literals_down, outputs_down, outputs_from, port_names, outputs_in, port_outputs, clock_name, net_with, Lowers};
 
 use crate::names::{bit_name, push_names, stem};
-use crate::signals::lower_order;
+use crate::signals::{are_few, lower_order};
 use crate::sources::{add_inputs, add_latches, given_literals};
 use lola_alg::AlgError;
 use lola_bits::{Memory, Name, Seq};
@@ -191,13 +191,6 @@ fn finish(
     let next = next_literals(alloc, next)?;
     let outputs = outputs(alloc, flat, signals)?;
     gates.into_net(alloc, name, clock, ports, next, outputs)
-}
-
-/// Gates hold fewer than 2^31 nodes.
-fn are_few(gates: &Gates)
-    ensures { length gates.now < 2 ^ 31 }
-{
-    let _ = gates.node_count();
 }
 
 /// The net of a well formed flat design: exactly `net_of`, whose cycles are the design's. Its nodes are the

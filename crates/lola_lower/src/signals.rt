@@ -14,7 +14,7 @@ ghost use Rattle.lola_alg.specs.Gates.{KeptAll};
 ghost use Rattle.lola_alg.specs.Means.{AreKnown};
 ghost use Rattle.lola_lower.specs.Names.{path_text};
 ghost use Rattle.lola_lower.specs.Sources.{bits_at};
-ghost use Rattle.lola_lower.specs.Steps.{value_among, release_among, value_of, release_of, lowest, pads_down, pad_step, signal_step, some_step, order_step};
+ghost use Rattle.lola_lower.specs.Steps.{first_among, others_among, value_of, release_of, lowest, pads_down, pad_step, signal_step, some_step, order_step};
 ghost use Rattle.lola_lower.specs.Ready.{Suits, SignalSuits, IsReady};
 
 use crate::names::{bit_name, path_text};
@@ -26,16 +26,23 @@ use lola_flat::{FExpr, Flat, SigKind, Signal, lists_are_trees};
 use lola_gate::Gates;
 use std::alloc::Global;
 
-/// The last and the first of three arguments.
-fn ends(args: &[FExpr]) -> (Option<&FExpr>, Option<&FExpr>)
-    ensures last { some_tree (option_copied result.0) ≡ value_among (expr_trees args.now) }
-    ensures first { some_tree (option_copied result.1) ≡ release_among (expr_trees args.now) }
+/// The first of some arguments.
+fn first(args: &[FExpr]) -> Option<&FExpr>
+    ensures { some_tree (option_copied result) ≡ first_among (expr_trees args.now) }
 {
     match args {
-        [] => (None, None),
-        [first] => (None, Some(first)),
-        [first, _] => (None, Some(first)),
-        [first, _, last, ..] => (Some(last), Some(first)),
+        [] => None,
+        [first, ..] => Some(first),
+    }
+}
+
+/// The others behind it.
+fn others(args: &[FExpr]) -> &[FExpr]
+    ensures { expr_trees result.now ≡ others_among (expr_trees args.now) }
+{
+    match args {
+        [] => args,
+        [_, more @ ..] => more,
     }
 }
 
@@ -46,7 +53,10 @@ fn pad_parts(signal: &Signal) -> (Option<&FExpr>, Option<&FExpr>)
 {
     lists_are_trees();
     match &signal.equation {
-        Some(FExpr::Apply { op: _, args }) => ends(args.items()),
+        Some(FExpr::Apply { op: _, args }) => {
+            let args = args.items();
+            (first(others(others(args))), first(args))
+        }
         _ => (None, None),
     }
 }
@@ -104,6 +114,13 @@ fn add_pads(
     }
 }
 
+/// Gates hold fewer than 2^31 nodes.
+pub(crate) fn are_few(gates: &Gates)
+    ensures { length gates.now < 2 ^ 31 }
+{
+    let _ = gates.node_count();
+}
+
 /// The pad nodes of a value and a release, and their literals.
 fn make_pads(
     alloc: Global,
@@ -130,6 +147,7 @@ fn make_pads(
         Ok(()) => {}
         Err(error) => return Err(error),
     }
+    are_few(gates);
     bits_at(alloc, first, value.items().len() as u32)
 }
 
