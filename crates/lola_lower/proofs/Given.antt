@@ -23,6 +23,7 @@ use Rattle.lola_flat.specs.Signals.{IsSignal, IsClock}
 use Rattle.lola_eval.specs.Means.{IsWideAs, EnvKnown}
 use Rattle.lola_lower.specs.Names.{stem, names_down, signal_names}
 use Rattle.lola_lower.specs.Sources.{is_alone, is_clock_path, is_input, is_register, has_input, has_latch, input_nodes, latch_nodes, all_inputs, all_latches, source_nodes, bits_at, elements_at, given_row, given_from, given_literals}
+use Rattle.lola_lower.specs.Steps.{names_in}
 use Rattle.lola_lower.specs.Ready.{IsReady}
 use Rattle.lola_lower.proofs.Steps.{bits_long}
 
@@ -194,3 +195,9 @@ module _ (xs : List FlatSignal) (i : ℕ) (x : FlatSignal) (within : i < length 
   pub rows_left : (F : FlatTree) (input latch : ℕ) → given_from F input latch (map signal_tree (drop i xs)) ≡
       given_row F input latch (signal_tree x) ∷ given_from F (input + length (input_nodes F (signal_tree x))) (latch + length (latch_nodes (signal_tree x))) (map signal_tree (drop (i + 1) xs))
   rows_left F input latch = ap (λ l. given_from F input latch (map signal_tree l)) (drop_item xs i x within is)
+
+-- where no signal stands there are no names
+pub no_port : (xs : List FlatSignal) (n : ℕ) → length xs ≤ n → names_in (slice_get (map signal_tree xs) n) ≡ []
+no_port [] n past = refl
+no_port (x ∷ xs) zero past = absurd (omega arith)
+no_port (x ∷ xs) (suc n) past = no_port xs n (omega arith)

@@ -12,3 +12,4 @@ pub mod Rows
 pub mod Carried
 pub mod Shown
 pub mod Followed
+pub mod Wires

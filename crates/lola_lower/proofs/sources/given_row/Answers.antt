@@ -5,9 +5,11 @@ use Rattle.lola_lower.proofs.Given.{input_long, latch_long}
 use Rattle.lola_lower.proofs.sources.given_row.Goals as goal
 
 pub elements_at-requires : goal.elements_at-requires
-elements_at-requires c =
-    subst (λ n. c.args.input + n ≤ 2 ^ 31) (input_long (flat_tree c.args.flat.now) (signal_tree c.args.signal.now) ∙ ap (λ (t : Bool). cond t (c.args.signal.now.count * c.args.signal.now.width) 0) (search rules)) c.requires.inputs
+elements_at-requires c = record {
+  few = subst (λ n. c.args.input + n ≤ 2 ^ 31) (input_long (flat_tree c.args.flat.now) (signal_tree c.args.signal.now) ∙ ap (λ (t : Bool). cond t (c.args.signal.now.count * c.args.signal.now.width) 0) (search rules)) c.requires.inputs;
+}
 
 pub elements_at-requires-then-has_latch : goal.elements_at-requires-then-has_latch
-elements_at-requires-then-has_latch c =
-    subst (λ n. c.args.latch + n ≤ 2 ^ 31) (latch_long (signal_tree c.args.signal.now) ∙ ap (λ (t : Bool). cond t (c.args.signal.now.count * c.args.signal.now.width) 0) (search rules)) c.requires.latches
+elements_at-requires-then-has_latch c = record {
+  few = subst (λ n. c.args.latch + n ≤ 2 ^ 31) (latch_long (signal_tree c.args.signal.now) ∙ ap (λ (t : Bool). cond t (c.args.signal.now.count * c.args.signal.now.width) 0) (search rules)) c.requires.latches;
+}
