@@ -44,7 +44,7 @@ module _ (F : FlatTree) (formed : IsFormed F) (outside : List ℕ) (N : List (Li
   module _ (before after : List ℕ) (n : ℕ) (split : F.order ≡ before ++ n ∷ after) (d : List Node) (table : List (List (List ℕ))) (ready : IsReady F before d table) (s : SignalTree) (is : IsSignal F n s) (shown : IsShown before (n ∷ after) d table) where
     -- the number of a part of the equation
     module _ (e : ExprTree) (equation : s.equation ≡ Some e) (f : ExprTree) (part : (r : Read) → IsIn r (reads f) → IsIn r (reads e)) (inside : AllByRecursion NotOutside (reads f))
-      (now : List Node) (stays : Stays gates_meaning d now) (made : List Node × List ℕ) (more : List Node) (grown : made.0 ≡ d ++ more) (means : MeansValue gates_meaning (env table []) f now made) where
+        (now : List Node) (stays : Stays gates_meaning d now) (made : List Node × List ℕ) (more : List Node) (grown : made.0 ≡ d ++ more) (means : MeansValue gates_meaning (env table []) f now made) where
       v : ℕ → Bool
       v = at_node (node_values s0 made.0)
 

@@ -155,22 +155,25 @@ module _ (F : FlatTree) (formed : IsFormed F) (before after : List ℕ) (n : ℕ
       let parts = pad_equation kind found.0 found.1 in
       let whole = suits found.0 found.1 in
       let fits : Fits (widths_of F) (apply op.Mux (one_expr parts.release (one_expr (from_outside n) (one_expr parts.value no_expr)))) = subst (Fits (widths_of F)) parts.is whole.fits in
-      let wide : width (widths_of F) (apply op.Mux (one_expr parts.release (one_expr (from_outside n) (one_expr parts.value no_expr)))) ≡ s.width = ap (width (widths_of F)) (sym parts.is) ∙ whole.width in
-      (parts.value, parts.release, record {
-        value_is = ap value_of (found.1 ∙ ap Some parts.is);
-        release_is = ap release_of (found.1 ∙ ap Some parts.is);
-        value_fits = fits.1.1.1.0;
-        release_fits = fits.1.0;
-        value_width = fits.0.1.1 ∙ wide;
-        release_width = fits.0.0;
-        equation = found.0;
-        equation_is = found.1;
-        equation_form = parts.is;
-        value_part = λ r read. subst (λ g. IsIn r (reads g)) (sym parts.is) (in_back r (reads parts.release) (outside_of n ∷ (reads parts.value ++ [])) (inr (subst (IsIn r) (sym (append-nil (reads parts.value))) read)));
-        release_part = λ r read. subst (λ g. IsIn r (reads g)) (sym parts.is) (in_front r (reads parts.release) (outside_of n ∷ (reads parts.value ++ [])) read);
-        value_inside = parts.value_inside;
-        release_inside = parts.release_inside;
-      })
+      let wide : width (widths_of F) (apply op.Mux (one_expr parts.release (one_expr (from_outside n) (one_expr parts.value no_expr)))) ≡ s.width = ap (width (widths_of F)) (sym parts.is) ∙ whole.width in (
+        parts.value,
+        parts.release,
+        record {
+          value_is = ap value_of (found.1 ∙ ap Some parts.is);
+          release_is = ap release_of (found.1 ∙ ap Some parts.is);
+          value_fits = fits.1.1.1.0;
+          release_fits = fits.1.0;
+          value_width = fits.0.1.1 ∙ wide;
+          release_width = fits.0.0;
+          equation = found.0;
+          equation_is = found.1;
+          equation_form = parts.is;
+          value_part = λ r read. subst (λ g. IsIn r (reads g)) (sym parts.is) (in_back r (reads parts.release) (outside_of n ∷ (reads parts.value ++ [])) (inr (subst (IsIn r) (sym (append-nil (reads parts.value))) read)));
+          release_part = λ r read. subst (λ g. IsIn r (reads g)) (sym parts.is) (in_front r (reads parts.release) (outside_of n ∷ (reads parts.value ++ [])) read);
+          value_inside = parts.value_inside;
+          release_inside = parts.release_inside;
+        },
+      )
 
   -- what is made for the signal suits the table
   pub kind_of : (s.kind ≡ Wire) ⊎ (s.kind ≡ Pad)

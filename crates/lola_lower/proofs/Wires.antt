@@ -23,7 +23,7 @@ use Rattle.lola_lower.proofs.Steps.{plain_inside, suits, part_fits, wire_means}
 use Rattle.lola_lower.proofs.Followed.{left, IsShown, part_value, shown_more}
 
 module _ (F : FlatTree) (formed : IsFormed F) (given : List (List ℕ)) (outside : List ℕ) (N : List (List ℕ)) (cycle : IsCycle F given outside N) (s0 : Sources) (before after : List ℕ) (n : ℕ) (split : F.order ≡ before ++ n ∷ after)
-  (d : List Node) (table : List (List (List ℕ))) (ready : IsReady F before d table) (s : SignalTree) (is : IsSignal F n s) (shown : IsShown F formed outside N s0 before (n ∷ after) d table) where
+    (d : List Node) (table : List (List (List ℕ))) (ready : IsReady F before d table) (s : SignalTree) (is : IsSignal F n s) (shown : IsShown F formed outside N s0 before (n ∷ after) d table) where
   pub wire_shown : s.kind ≡ Wire → (made : List Node × List ℕ) → equation_step gates_calls (env table []) s.equation d ≡ Some made → IsShown F formed outside N s0 (before ++ n ∷ []) after made.0 (set table n (made.1 ∷ []))
   wire_shown w made step =
       let found = has_equation s.kind s.equation (inl w) (formed.signals n s is).equation in

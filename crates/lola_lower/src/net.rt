@@ -50,12 +50,7 @@ fn next_literals(alloc: Global, next: &[Seq<Seq<u32>>]) -> Result<Seq<u32>, Memo
 }
 
 /// Puts the names of a port's bits behind others.
-fn push_port(
-    alloc: Global,
-    names: &mut Vec<Name>,
-    flat: &Flat,
-    port: usize,
-) -> Result<(), Memory>
+fn push_port(alloc: Global, names: &mut Vec<Name>, flat: &Flat, port: usize) -> Result<(), Memory>
     ensures { OnOk result (names.new.items ≡ names.old.items ++ port_names (flat_tree flat.now) port) }
 {
     match flat.signals.items().get(port) {

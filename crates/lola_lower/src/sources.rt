@@ -83,12 +83,7 @@ fn add_states(alloc: Global, gates: &mut Gates, names: &[Name]) -> Result<(), Al
 }
 
 /// Adds the nodes of a signal where it is an input.
-fn add_input(
-    alloc: Global,
-    gates: &mut Gates,
-    flat: &Flat,
-    signal: &Signal,
-) -> Result<(), AlgError>
+fn add_input(alloc: Global, gates: &mut Gates, flat: &Flat, signal: &Signal) -> Result<(), AlgError>
     ensures ok { OnOk result (gates.new ≡ gates.old ++ input_nodes (flat_tree flat.now) (signal_tree signal.now)) }
     ensures err { result ≢ Err AlgError.Full }
 {
@@ -161,12 +156,7 @@ pub(crate) fn bits_at(alloc: Global, first: u32, width: u32) -> Result<Seq<u32>,
 }
 
 /// The literals of so many elements, one behind another.
-fn elements_at(
-    alloc: Global,
-    first: u32,
-    width: u32,
-    count: u32,
-) -> Result<Seq<Seq<u32>>, AlgError>
+fn elements_at(alloc: Global, first: u32, width: u32, count: u32) -> Result<Seq<Seq<u32>>, AlgError>
     requires few { first + count * width ≤ 2 ^ 31 }
     ensures ok { IfOk result (λ elements. elements ≡ elements_at first width count) }
     ensures err { result ≢ Err AlgError.Full }

@@ -30,8 +30,7 @@ fn nodes_are_counted(rt: HostRuntime) -> Result<(), Fail> {
 fn text_of_the_sample(rt: HostRuntime) -> Result<(), Fail> {
     let alloc = rt.alloc();
     let net = net(alloc)?;
-    let text =
-        b"module S(c_0,a_0,p_0);\ninput c_0;\ninput a_0;\ninout p_0;\n\
+    let text = b"module S(c_0,a_0,p_0);\ninput c_0;\ninput a_0;\ninout p_0;\n\
 wire _6;\nwire _7;\nwire _8;\nwire _9;\nwire _10;\nwire _11;\nwire _12;\nwire _13;\nwire _14;\n\
 reg r_0;\nreg R_0_0;\nreg R_1_0;\n\
 assign p_0 = a_0 ? 1'bz : r_0;\nassign _6 = R_1_0 & p_0;\nassign _7 = R_0_0 & ~p_0;\nassign _8 = ~_6 & ~_7;\n\
