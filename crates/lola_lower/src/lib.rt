@@ -5,7 +5,8 @@
 //! in the order of equations, and then the next values of the registers in signal order. A pad makes its
 //! value, its release and then a pad node for each bit. Within a name elements go from 0 on, and bits from
 //! the highest down to bit 0. The definition `net_of` says exactly which net that is, by the steps of
-//! `lola_eval` over the algebra of `lola_gate`; two laws say what it means and how it is named.
+//! `lola_eval` over the algebra of `lola_gate`. That its cycles are the design's is stated in `specs/Cycles.antt`,
+//! and how its names stand in `specs/Named.antt`; neither is proved yet.
 #![tactic(auto)]
 
 mod names;

@@ -188,7 +188,7 @@ fn finish(
     gates.into_net(alloc, name, clock, ports, next, outputs)
 }
 
-/// The net of a well formed flat design: exactly `net_of`, whose cycles are the design's. Its nodes are the
+/// The net of a well formed flat design: exactly `net_of`. Its nodes are the
 /// inputs but the clock and the registers, in signal order, then the signals in the order of equations, a pad
 /// being its value, its release and then its pad nodes, and then the next values of the registers. All names
 /// but the net's own are bit names; the ports stand in text order, the clock among them, and the outputs are
