@@ -7,6 +7,8 @@ use Rattle.lrat_check.specs.Clauses.{clauses_of, has_empty}
 use Rattle.lrat_check.specs.Derives.{Derives, AreGood, checked_cnf, added}
 use Rattle.sat_search.specs.declared.found.Found.{Found}
 use Rattle.sat_search.specs.declared.found.Found.TheVariants as found
+use Rattle.sat_search.specs.declared.found.SplitFound.{SplitFound}
+use Rattle.sat_search.specs.declared.found.SplitFound.TheVariants as split
 use Rattle.sat_search.specs.Ranges.{LineFits}
 use Rattle.sat_search.specs.Values.{Assigns}
 
@@ -32,3 +34,13 @@ abbrev pub Answers : Cnf → ℕ → Found → Type 0
 Answers cnf limit (found.Refutation lines) = Refutes cnf limit lines
 Answers cnf limit (found.Assignment values) = Assigns cnf values
 Answers cnf limit (found.Spent lines) = Spends cnf limit lines
+
+-- lines that refute the clauses
+pub record Closes (cnf : Cnf) (lines : List Line) : Type 0 where
+  pub derives : Derives cnf lines
+  pub fits : AllByRecursion LineFits lines
+
+-- a refutation or an assignment
+abbrev pub Splits : Cnf → SplitFound → Type 0
+Splits cnf (split.Refutation lines) = Closes cnf lines
+Splits cnf (split.Assignment values) = Assigns cnf values

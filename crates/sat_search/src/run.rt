@@ -1,13 +1,15 @@
 //! An engine is asked for claims until the clauses are refuted or satisfied, or the limit is spent.
 ghost use Rattle.std.specs.Prelude.{◌≡◌, ◌≤◌, length, IfOk, false};
 ghost use Rattle.lrat_check.specs.Clauses.{IsKnown};
-ghost use Rattle.sat_search.specs.Found.{Answers};
+ghost use Rattle.sat_search.specs.Found.{Answers, Splits};
 ghost use Rattle.sat_search.specs.Ranges.{HasLiterals};
 ghost use Rattle.sat_search.specs.Kept.{IsKept, KeptTo, Asked, Advanced};
 
 use crate::engine::{Engine, Event};
-use crate::found::Found;
+use crate::found::{Found, SplitFound};
 use crate::keeper::{Keeper, Outcome};
+use crate::solver::Solver;
+use crate::splitter::Splitter;
 use crate::values::is_model;
 use lola_bits::{Memory, Seq};
 use lrat_check::{Cnf, closes};
@@ -136,4 +138,44 @@ pub fn conduct<E: Engine>(
         }
     }
     Ok(finished(cnf, limit, keeper))
+}
+
+/// Looks for a refutation of the clauses by at most `limit` additions, or for values that make each of them true. Where
+/// neither is found, the answer is `limit` good additions. The only refusal is Memory.
+pub fn search(alloc: Global, cnf: &Cnf, limit: u64) -> Result<Found, Memory>
+    requires known { IsKnown cnf.now }
+    requires literals { HasLiterals cnf.now }
+    requires positive { 1 ≤ limit }
+    ensures { IfOk result (Answers cnf.now limit) }
+{
+    let mut solver = match Solver::new(alloc, cnf) {
+        Ok(solver) => solver,
+        Err(fault) => return Err(fault),
+    };
+    conduct(alloc, cnf, limit, &mut solver)
+}
+
+/// The most clauses that a split learns: one for each assignment of 16 inputs.
+const SPLIT_LIMIT: u64 = 65536;
+
+/// Tries all values of the inputs, and answers lines that refute the clauses, or the least assignment that makes them
+/// true: that of the first input counts most, and false comes before true. Each variable that occurs and isn't an input
+/// has to be a gate, of which the clauses say that it is the conjunction of two literals of smaller variables. The only
+/// refusal is Memory.
+pub fn split(alloc: Global, cnf: &Cnf, inputs: &[u32]) -> Result<SplitFound, Memory>
+    requires known { IsKnown cnf.now }
+    requires literals { HasLiterals cnf.now }
+    requires few { length inputs.now ≤ 16 }
+    ensures { IfOk result (Splits cnf.now) }
+{
+    let mut splitter = match Splitter::new(alloc, cnf, inputs) {
+        Ok(splitter) => splitter,
+        Err(fault) => return Err(fault),
+    };
+    match conduct(alloc, cnf, SPLIT_LIMIT, &mut splitter) {
+        Ok(Found::Refutation { lines }) => Ok(SplitFound::Refutation { lines }),
+        Ok(Found::Assignment { values }) => Ok(SplitFound::Assignment { values }),
+        Ok(Found::Spent { lines: _ }) => Err(Memory),
+        Err(fault) => Err(fault),
+    }
 }
