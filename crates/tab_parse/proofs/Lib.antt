@@ -1,6 +1,13 @@
 pub mod Begins
 pub mod Chains
+pub mod ClassEnds
 pub mod Exits
 pub mod Fronts
+pub mod OneFront
+pub mod OnePhase
+pub mod OneRow
+pub mod OneTable
 pub mod Parts
 pub mod PhaseEnds
+pub mod TableEnds
+pub mod TooLong

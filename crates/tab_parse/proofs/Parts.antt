@@ -11,7 +11,7 @@ use Rattle.tab_parse.specs.Fronts.{at_word, at_byte, EndedAccess, EndsAccess}
 use Rattle.tab_parse.proofs.Begins.{expression_apart}
 use Rattle.tab_parse.proofs.Fronts.{keyword_one, keyword_at}
 
-clash : {A : Type 0} {b : Bool} → b ≡ true → b ≡ false → A
+pub clash : {A : Type 0} {b : Bool} → b ≡ true → b ≡ false → A
 clash one two = absurd (let p : true ≡ false = sym one ∙ two in cc)
 
 -- an expression behind a word

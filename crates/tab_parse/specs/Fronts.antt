@@ -1,5 +1,5 @@
 -- What the token at the front says, where a rule goes on or ends by it.
-use Rattle.std.specs.Prelude.{◌≡◌, ◌⊎◌, ℕ, Bool, true, false, bytes_eq, List, [], ◌∷◌, codes, Option, Some, None}
+use Rattle.std.specs.Prelude.{◌≡◌, ◌⊎◌, ℕ, Bool, true, false, cond, bytes_eq, List, [], ◌∷◌, codes, Option, Some, None}
 use Rattle.lola_parse.specs.declared.symbol.Symbol.{Symbol}
 use Rattle.lola_parse.specs.declared.symbol.Symbol.TheVariants as sym
 use Rattle.lola_parse.specs.Symbols.{Item}
@@ -49,6 +49,10 @@ at_comma all = is_comma (front all)
 abbrev pub at_bracket : List Item → Bool
 at_bracket all = is_bracket (front all)
 
+-- the word of a class
+abbrev pub at_class : List Item → Bool
+at_class all = cond (at_word (codes "CLASS") all) true (at_word (codes "OUTSIDE") all)
+
 abbrev pub at_byte : List Item → Bool
 at_byte all = is_byte (front all)
 
@@ -94,3 +98,13 @@ pub record EndsAccess (rest : List Item) : Type 0 where
   pub no_load : at_word (codes "LOAD") rest ≡ false
   pub no_store : at_word (codes "STORE") rest ≡ false
   pub no_fetch : at_word (codes "FETCH") rest ≡ false
+
+-- a class may end where no PHASE and no SET is
+pub record EndsClass (rest : List Item) : Type 0 where
+  pub no_phase : at_word (codes "PHASE") rest ≡ false
+  pub no_set : at_word (codes "SET") rest ≡ false
+
+-- the fields, which may be missing, where no name and no FIELDS is
+pub record EndsFields (rest : List Item) : Type 0 where
+  pub no_name : at_name rest ≡ false
+  pub no_fields : at_word (codes "FIELDS") rest ≡ false

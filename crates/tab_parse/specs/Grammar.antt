@@ -15,7 +15,8 @@ use Rattle.tab_parse.specs.declared.placed.PortRole.{PortRole}
 use Rattle.tab_parse.specs.declared.placed.PortRole.TheVariants as port
 use Rattle.tab_parse.specs.declared.placed.RoleWord.{RoleWord}
 use Rattle.tab_parse.specs.declared.placed.RoleWord.TheVariants as word
-use Rattle.tab_parse.specs.Placed.{RoleAt, active_row, code_row, port_row, StateAt, LetAt, SetAt, TurnsAt, AccessAt, idle_at, take_at, load_at, store_at, fetch_at, PhaseAt, InsideAt, ClassAt, TableAt}
+use Rattle.tab_parse.specs.declared.classes.Pattern.{Pattern}
+use Rattle.tab_parse.specs.Placed.{RoleAt, active_row, code_row, port_row, StateAt, LetAt, SetAt, TurnsAt, AccessAt, idle_at, take_at, load_at, store_at, fetch_at, PhaseAt, InsideAt, ClassAt, pattern_of, TableAt, HeadingAt, heading_of, ViewsAt, views_of, EffectsAt, effects_of}
 
 -- a token of this symbol and spelling stands at the front, at this place, and the rest behind it
 pub record Spelled (symbol : Symbol) (spelled : List ℕ) (at : ℕ) (all rest : List Item) : Type 0 where
@@ -298,12 +299,12 @@ pub record PhaseList (all : List Item) (phases : List PhaseAt) (rest : List Item
 abbrev pub is_place : ℕ → Bool
 is_place b = cond (nat_eq b 45) true (cond (nat_eq b 48) true (nat_eq b 49))
 
--- a pattern, at this place
-pub record Patterned (at : ℕ) (all : List Item) (pattern : List ℕ) (rest : List Item) : Type 0 where
+-- a pattern, with its place
+pub record Patterned (all : List Item) (pattern : Pattern) (rest : List Item) : Type 0 where
   pub is_word : Bool
   pub spelled : List ℕ
-  pub splits : all ≡ record { symbol = sym.Pattern; is_word = is_word; spelled = spelled; at = at } ∷ rest
-  pub places : pattern ≡ filter is_place spelled
+  pub splits : all ≡ record { symbol = sym.Pattern; is_word = is_word; spelled = spelled; at = pattern.at } ∷ rest
+  pub places : pattern.places ≡ filter is_place spelled
 
 -- {"LET" ..} phase {phase} {"SET" ..}
 pub record Steps (all : List Item) (inside : InsideAt) (rest : List Item) : Type 0 where
@@ -313,60 +314,87 @@ pub record Steps (all : List Item) (inside : InsideAt) (rest : List Item) : Type
   pub phases_read : PhaseList first inside.phases sets
   pub sets_read : More SetLine [] sets inside.sets rest
 
--- name pattern
-pub record ClassTitle (all : List Item) (class : ClassAt) (rest : List Item) : Type 0 where
+-- name pattern ";", behind OUTSIDE
+pub record OutsideBehind (all : List Item) (class : ClassAt) (rest : List Item) : Type 0 where
   pub pattern : List Item
+  pub behind : List Item
   pub name_read : NameAt all class.name pattern
-  pub pattern_read : Patterned class.pattern_at pattern class.pattern rest
+  pub pattern_read : Patterned pattern (pattern_of class) behind
+  pub ended_passed : Passes sym.Semicolon behind rest
+  pub no_steps : class.inside ≡ None
+
+-- name pattern {"LET" ..} phase {phase} {"SET" ..}, behind CLASS
+pub record InsideBehind (all : List Item) (class : ClassAt) (rest : List Item) : Type 0 where
+  pub steps : InsideAt
+  pub pattern : List Item
+  pub behind : List Item
+  pub name_read : NameAt all class.name pattern
+  pub pattern_read : Patterned pattern (pattern_of class) behind
+  pub steps_read : Steps behind steps rest
+  pub some_steps : class.inside ≡ Some steps
 
 -- class = "OUTSIDE" name pattern ";" | "CLASS" name pattern {"LET" name "IS" expr ";"} phase {phase} {"SET" set ";"}
 pub data ClassRow (all : List Item) (class : ClassAt) (rest : List Item) : Type 0 where
-  outside : (first behind : List Item) → Keyword (codes "OUTSIDE") all first → ClassTitle first class behind → Passes sym.Semicolon behind rest →
-      class.inside ≡ None → ClassRow all class rest
-  inside : (steps : InsideAt) (first behind : List Item) → Keyword (codes "CLASS") all first → ClassTitle first class behind → Steps behind steps rest →
-      class.inside ≡ Some steps → ClassRow all class rest
+  outside : (first : List Item) → Keyword (codes "OUTSIDE") all first → OutsideBehind first class rest → ClassRow all class rest
+  inside : (first : List Item) → Keyword (codes "CLASS") all first → InsideBehind first class rest → ClassRow all class rest
 
--- table = "TABLE" name "FOR" name ";" "ROLES" {role} "STATE" {state} ["FIELDS" {name "IS" expr ";"}] "INVARIANT" expr ";"
---         "BOUNDARY" expr ";" "START" {name ":=" expr ";"} ["FETCH" expr ";"] {class} "END" name "." to the end
-pub record SpellsTable (all : List Item) (T : TableAt) : Type 0 where
+-- "TABLE" name "FOR" name ";" "ROLES" {role}
+pub record Headed (all : List Item) (heading : HeadingAt) (rest : List Item) : Type 0 where
   pub title : List Item
   pub word_for : List Item
   pub root : List Item
   pub semicolon : List Item
   pub word_roles : List Item
   pub roles : List Item
-  pub word_state : List Item
+  pub table_passed : Keyword (codes "TABLE") all title
+  pub name_read : NameAt title heading.name word_for
+  pub for_passed : Keyword (codes "FOR") word_for root
+  pub root_read : NameAt root heading.root semicolon
+  pub semicolon_passed : Passes sym.Semicolon semicolon word_roles
+  pub roles_passed : Keyword (codes "ROLES") word_roles roles
+  pub roles_read : More RoleRow [] roles heading.roles rest
+
+-- "STATE" {state} ["FIELDS" {name "IS" expr ";"}] "INVARIANT" expr ";" "BOUNDARY" expr ";"
+pub record Viewed (all : List Item) (views : ViewsAt) (rest : List Item) : Type 0 where
   pub states : List Item
   pub word_fields : List Item
   pub word_invariant : List Item
   pub invariant : List Item
   pub word_boundary : List Item
   pub boundary : List Item
-  pub word_start : List Item
+  pub state_passed : Keyword (codes "STATE") all states
+  pub states_read : More StateRow [] states views.states word_fields
+  pub fields_read : Fields word_fields views.fields word_invariant
+  pub invariant_passed : Keyword (codes "INVARIANT") word_invariant invariant
+  pub invariant_read : Ended invariant views.invariant word_boundary
+  pub boundary_passed : Keyword (codes "BOUNDARY") word_boundary boundary
+  pub boundary_read : Ended boundary views.boundary rest
+
+-- "START" {name ":=" expr ";"} ["FETCH" expr ";"] {class}
+pub record Effected (all : List Item) (effects : EffectsAt) (rest : List Item) : Type 0 where
   pub starts : List Item
   pub word_fetch : List Item
   pub classes : List Item
-  pub word_end : List Item
+  pub start_passed : Keyword (codes "START") all starts
+  pub starts_read : More StartRow [] starts effects.starts word_fetch
+  pub fetch_read : StartFetch word_fetch effects.start_fetch classes
+  pub classes_read : More ClassRow [] classes effects.classes rest
+
+-- "END" name "." to the end
+pub record Ending (all : List Item) (name : Named) : Type 0 where
   pub ends : List Item
   pub dot : List Item
-  pub table_passed : Keyword (codes "TABLE") all title
-  pub name_read : NameAt title T.name word_for
-  pub for_passed : Keyword (codes "FOR") word_for root
-  pub root_read : NameAt root T.root semicolon
-  pub semicolon_passed : Passes sym.Semicolon semicolon word_roles
-  pub roles_passed : Keyword (codes "ROLES") word_roles roles
-  pub roles_read : More RoleRow [] roles T.roles word_state
-  pub state_passed : Keyword (codes "STATE") word_state states
-  pub states_read : More StateRow [] states T.states word_fields
-  pub fields_read : Fields word_fields T.fields word_invariant
-  pub invariant_passed : Keyword (codes "INVARIANT") word_invariant invariant
-  pub invariant_read : Ended invariant T.invariant word_boundary
-  pub boundary_passed : Keyword (codes "BOUNDARY") word_boundary boundary
-  pub boundary_read : Ended boundary T.boundary word_start
-  pub start_passed : Keyword (codes "START") word_start starts
-  pub starts_read : More StartRow [] starts T.starts word_fetch
-  pub fetch_read : StartFetch word_fetch T.start_fetch classes
-  pub classes_read : More ClassRow [] classes T.classes word_end
-  pub end_passed : Passes sym.End word_end ends
-  pub ends_read : NameAt ends T.ends dot
+  pub end_passed : Passes sym.End all ends
+  pub ends_read : NameAt ends name dot
   pub dot_passed : Passes sym.Dot dot []
+
+-- table = "TABLE" name "FOR" name ";" "ROLES" {role} "STATE" {state} ["FIELDS" {name "IS" expr ";"}] "INVARIANT" expr ";"
+--         "BOUNDARY" expr ";" "START" {name ":=" expr ";"} ["FETCH" expr ";"] {class} "END" name "." to the end
+pub record SpellsTable (all : List Item) (T : TableAt) : Type 0 where
+  pub word_state : List Item
+  pub word_start : List Item
+  pub word_end : List Item
+  pub headed : Headed all (heading_of T) word_state
+  pub viewed : Viewed word_state (views_of T) word_start
+  pub effected : Effected word_start (effects_of T) word_end
+  pub ending : Ending word_end T.ends

@@ -24,6 +24,10 @@ use Rattle.tab_parse.specs.declared.placed.PlacedPhase.{PlacedPhase}
 use Rattle.tab_parse.specs.declared.placed.PlacedInside.{PlacedInside}
 use Rattle.tab_parse.specs.declared.placed.PlacedClass.{PlacedClass}
 use Rattle.tab_parse.specs.declared.placed.PlacedTable.{PlacedTable}
+use Rattle.tab_parse.specs.declared.classes.Pattern.{Pattern}
+use Rattle.tab_parse.specs.declared.table.Heading.{Heading}
+use Rattle.tab_parse.specs.declared.table.Views.{Views}
+use Rattle.tab_parse.specs.declared.table.Effects.{Effects}
 
 -- a row of the roles, at the place of its word
 pub data RoleAt : Type 0 where
@@ -126,6 +130,10 @@ pub record ClassAt : Type 0 where
 abbrev pub class_at : PlacedClass → ClassAt
 class_at class = record { name = class.name; pattern = class.pattern; pattern_at = class.pattern_at; inside = some_inside_at class.inside }
 
+-- its pattern alone
+abbrev pub pattern_of : ClassAt → Pattern
+pattern_of class = record { at = class.pattern_at; places = class.pattern }
+
 -- a table
 pub record TableAt : Type 0 where
   pub name : Named
@@ -154,6 +162,50 @@ table_at table = record {
   classes = map class_at table.classes;
   ends = table.ends;
 }
+
+-- The sections of a table: what stands before STATE, before START and before END.
+pub record HeadingAt : Type 0 where
+  pub name : Named
+  pub root : Named
+  pub roles : List RoleAt
+
+pub record ViewsAt : Type 0 where
+  pub states : List StateAt
+  pub fields : List LetAt
+  pub invariant : ActualTree
+  pub boundary : ActualTree
+
+pub record EffectsAt : Type 0 where
+  pub starts : List SetAt
+  pub start_fetch : Option ActualTree
+  pub classes : List ClassAt
+
+abbrev pub heading_at : Heading → HeadingAt
+heading_at heading = record { name = heading.name; root = heading.root; roles = map role_at heading.roles }
+
+abbrev pub views_at : Views → ViewsAt
+views_at views = record {
+  states = map state_at views.states;
+  fields = map let_at views.fields;
+  invariant = actual_tree views.invariant;
+  boundary = actual_tree views.boundary;
+}
+
+abbrev pub effects_at : Effects → EffectsAt
+effects_at effects = record {
+  starts = map set_at effects.starts;
+  start_fetch = place_tree effects.start_fetch;
+  classes = map class_at effects.classes;
+}
+
+abbrev pub heading_of : TableAt → HeadingAt
+heading_of table = record { name = table.name; root = table.root; roles = table.roles }
+
+abbrev pub views_of : TableAt → ViewsAt
+views_of table = record { states = table.states; fields = table.fields; invariant = table.invariant; boundary = table.boundary }
+
+abbrev pub effects_of : TableAt → EffectsAt
+effects_of table = record { starts = table.starts; start_fetch = table.start_fetch; classes = table.classes }
 
 -- Without places.
 

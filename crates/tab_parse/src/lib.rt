@@ -6,13 +6,18 @@
 //! and whether the table fits a design, is not known here.
 #![tactic(auto)]
 
+mod classes;
 mod front;
+mod laws;
 mod phases;
 mod placed;
 mod roles;
 mod rows;
 mod sets;
+mod table;
 
+pub use classes::take_classes;
+pub use laws::one_table;
 pub use phases::take_phases;
 pub use placed::{
     ActiveRole, PlacedAccess, PlacedClass, PlacedInside, PlacedLet, PlacedPhase, PlacedRole,
@@ -21,3 +26,4 @@ pub use placed::{
 pub use roles::take_roles;
 pub use rows::{take_fields, take_starts, take_states};
 pub use sets::{take_lets, take_sets, take_shows};
+pub use table::parse_table;

@@ -1,5 +1,5 @@
-//! Rows of tables with what the reader makes of each, worked out by hand from the grammar: each kind of
-//! row, and each broken once.
+//! Tables and rows of tables with what the reader makes of each, worked out by hand from the grammar:
+//! each kind of row and each section, and each broken once.
 #![tactic(auto)]
 
 #[cfg(test)]
@@ -8,3 +8,5 @@ mod answer;
 mod places;
 #[cfg(test)]
 mod rows;
+#[cfg(test)]
+mod tables;
