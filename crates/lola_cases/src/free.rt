@@ -38,8 +38,9 @@ fn is_clock(flat: &Flat, signal: &Signal) -> bool
     }
 }
 
-/// How many numbers a cycle is given for a signal.
-pub(crate) fn free_count(flat: &Flat, signal: &Signal) -> u32
+/// How many numbers a cycle is given for a signal: one for each element of an input but the clock and of a
+/// register, one for a pad, and none for a wire.
+pub fn free_count(flat: &Flat, signal: &Signal) -> u32
     ensures { result ≡ free_count (flat_tree flat.now) (signal_tree signal.now) }
 {
     match signal.kind {

@@ -16,7 +16,7 @@ mod tables;
 mod trial;
 
 pub use evaluation::{Cycle, behind};
-pub use free::{FreeElement, free_elements, free_widths};
+pub use free::{FreeElement, free_count, free_elements, free_widths};
 pub use laws::{
     cases_are_given, counting, each_has_one_cycle, each_is_one_case, free_bits_are_few,
     inputs_come_first, same_cycles, values_are_given,

@@ -1,0 +1,7 @@
+use Rattle.std.proofs.Common.{◌≡◌, ◌++◌, [], drop, map}
+use Rattle.lola_flat.specs.Tree.{flat_tree, signal_tree}
+use Rattle.lola_asked.specs.Tables.{dealt_outside}
+use Rattle.lola_asked.proofs.tables.dealt_outside.Given as goal
+
+abbrev pub invariant-loop-at : goal.invariant-loop-at
+invariant-loop-at l = l.made.items ++ dealt_outside [] (flat_tree l.flat) (map signal_tree (drop l.at l.signals)) l.rest ≡ dealt_outside [] (flat_tree l.flat) (flat_tree l.flat).signals l.vectors
