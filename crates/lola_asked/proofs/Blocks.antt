@@ -109,13 +109,13 @@ module _ (F : FlatTree) (E : Env (List CaseBit)) (further : List (List (List Cas
         (λ n s is. get_or-map (map length) behind n [] ∙ behind_at n s is s.kind refl (next_elements (widths_of F) (env (map (map number) table) []) s.place s.equation (get_or (map (map number) table) n [])) (next.each n s is))
 
     -- images of the joined tables
-    joined_images : {Y : Type 0} (f : List ℕ → Y) (more : List (List (List ℕ))) → map (map f) (table ++ behind ++ more) ≡ joined_tables (map (map f) table) (map (map f) behind) (map (map f) more)
+    joined_images : {Y : Type 0} (f : List ℕ → Y) (more : List (List (List ℕ))) → map (map f) (table ++ (behind ++ more)) ≡ joined_tables (map (map f) table) (map (map f) behind) (map (map f) more)
     joined_images {Y = Y} f more = map-append (map f) table (behind ++ more) ∙ ap (λ (l : List (List Y)). map (map f) table ++ l) (map-append (map f) behind more)
 
     -- all words one behind another
     module _ (more : List (List (List ℕ))) (more_are : AreTableWords block further more) where
       abbrev whole : Env (List ℕ)
-      whole = env (table ++ behind ++ more) outside
+      whole = env (table ++ (behind ++ more)) outside
 
       whole_known : EnvKnown lane_meaning tt whole
       whole_known = record {

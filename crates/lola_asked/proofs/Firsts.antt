@@ -19,7 +19,7 @@ use Rattle.lola_asked.specs.declared.bits.CaseBit.{CaseBit}
 use Rattle.lola_asked.specs.declared.setting.Setting.{Setting}
 use Rattle.lola_asked.specs.Setting.{setting_widths, free_bits, design_numbers, further_numbers, further_widths, joined_tables, widths_with, check_widths}
 use Rattle.lola_asked.specs.Asked.{check_numbers, HoldsIn}
-use Rattle.lola_asked.specs.Words.{numbers_in, further_in, AreTables, AreNumbersOf, IsViolatedIn, IsViolatedWord}
+use Rattle.lola_asked.specs.Words.{numbers_in, further_in, AreTables, AreNumbersOf, IsViolatedIn, IsViolatedWord, IsFirstViolated}
 
 module _ (F : FlatTree) (E : Env (List CaseBit)) (further : List (List (List CaseBit))) (k : CheckTree) where
   abbrev Passes : ℕ → Type 0
@@ -52,6 +52,17 @@ module _ (F : FlatTree) (E : Env (List CaseBit)) (further : List (List (List Cas
       positive : (w : ℕ) → w ≢ 0 → 0 < w
       positive zero e = absurd (e refl)
       positive (suc w) e = omega arith
+
+  -- where all blocks before pass, and they hold all cases
+  pub none_first : (block cases : ℕ) → cases ≤ 64 * block → ((c : ℕ) → c < 64 * block → Passes c) → IsFirstViolated F E further k cases None
+  none_first block cases past passes = λ c below. passes c (omega (arith, below, past))
+
+  -- where a case fails, before which none does
+  pub first_found : (case cases : ℕ) → IsViolatedIn F E further k case true → ((e : ℕ) → e < case → Passes e) → case < cases → IsFirstViolated F E further k cases (Some case)
+  first_found case cases fails passes below = (below, (fails, passes))
+
+  pub none_below : (case cases : ℕ) → ((e : ℕ) → e < case → Passes e) → cases ≤ case → IsFirstViolated F E further k cases None
+  none_below case cases passes past = λ c below. passes c (omega (arith, below, past))
 
   -- the numbers of a setting
   module _ (s : Setting) (suits : AreTables F E further) (are : AreNumbersOf F s E further) (wide : map (map length) further ≡ further_widths s.further) where

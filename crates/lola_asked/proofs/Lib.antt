@@ -5,3 +5,4 @@ pub mod Each
 pub mod Suited
 pub mod Blocks
 pub mod Firsts
+pub mod Dealing

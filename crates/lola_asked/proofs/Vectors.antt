@@ -1,5 +1,5 @@
 -- The vectors of all elements: their widths, their numbers in a case, and their places.
-use Rattle.std.proofs.Common.{◌≡◌, ℕ, zero, suc, ◌+◌, ◌-◌, ◌*◌, ◌/◌, ◌%◌, ◌^◌, ◌<◌, ◌≤◌, List, [], ◌∷◌, ◌++◌, length, map, drop, get_or, Option, Some, None, refl, sym, ap, ap₂, ◌∙◌, subst, append_assoc, append-nil, arith}
+use Rattle.std.proofs.Common.{◌≡◌, ℕ, zero, suc, ◌+◌, ◌-◌, ◌*◌, ◌/◌, ◌%◌, ◌^◌, ◌<◌, ◌≤◌, List, [], ◌∷◌, ◌++◌, length, map, drop, get_or, min, replicate, Option, Some, None, refl, sym, ap, ap₂, ◌∙◌, subst, append_assoc, append-nil, arith}
 use Rattle.std.specs.List.{AllByRecursion}
 use Rattle.std.proofs.lemmas.Nat.{mod-pow-add, div-mul-add, mod-mul-add, pow_pos, mod_below}
 use Rattle.lola_bits.specs.Lists.{AreEach}
@@ -11,8 +11,8 @@ use Rattle.lola_flat.specs.Value.{sum_of}
 use Rattle.lola_cases.specs.Cases.{AreWithin}
 use Rattle.lola_cases.specs.Counting.{numbers_of}
 use Rattle.lola_asked.specs.declared.bits.CaseBit.{CaseBit}
-use Rattle.lola_asked.specs.Setting.{GivenFits, open_widths, filled}
-use Rattle.lola_asked.specs.CaseBits.{bit_in, number_in_case, IsSmall, place_bits, fixed_bits, vectors_of}
+use Rattle.lola_asked.specs.Setting.{GivenFits, open_one, open_widths, filled}
+use Rattle.lola_asked.specs.CaseBits.{bit_in, number_in_case, IsSmall, place_bits, fixed_bits, vector_of, vectors_of}
 use Rattle.lola_asked.proofs.Digits.{place_number, fixed_number, place_long, fixed_long, place_small, fixed_small}
 
 pub vectors_wide : (given : List (Option ℕ)) (ws : List ℕ) → AreEach GivenFits given ws → map length (vectors_of given ws) ≡ ws
@@ -41,7 +41,7 @@ vectors_spell c (None ∷ given) (w ∷ ws) fit =
     (vectors_spell c given ws fit.1 ∙ ap (λ (m : ℕ). filled given (numbers_of (open_widths given ws) m)) (sym (below c w s)))
 
 itself : (c m : ℕ) → c < m → c % m ≡ c
-itself c m inside = mod-mul-add 0 m c inside
+itself c m inside = let none : c ≡ 0 * m + c = omega arith in ap (λ (x : ℕ). x % m) none ∙ mod-mul-add 0 m c inside
 
 pub vectors_are : (c : ℕ) (given : List (Option ℕ)) (ws : List ℕ) → AreEach GivenFits given ws → c < 2 ^ sum_of (open_widths given ws) →
     map (number_in_case c) (vectors_of given ws) ≡ filled given (numbers_of (open_widths given ws) c)
@@ -84,55 +84,77 @@ pub record AreOpenSoFar (given : List (Option ℕ)) (ws : List ℕ) (rest : List
   pub each : AreEach GivenFits rest rest_widths
   pub widths : made ++ open_widths rest rest_widths ≡ open_widths given ws
 
--- the element whose turn it is, before those behind it
-pub vectors_turn : (given : List (Option ℕ)) (ws : List ℕ) (at left g_width : ℕ) (g : Option ℕ) (vectors : List (List CaseBit)) → at < length given → g ≡ get_or given at g → at < length ws → g_width ≡ get_or ws at g_width →
-    AreVectorsSoFar given ws (drop at given) (drop at ws) left vectors → AreVectorsSoFar given ws (g ∷ drop (at + 1) given) (g_width ∷ drop (at + 1) ws) left vectors
-vectors_turn given ws at left w g vectors within is within_too is_too so =
-    subst (λ (l : List (Option ℕ)). AreVectorsSoFar given ws l (w ∷ drop (at + 1) ws) left vectors) (drop_item given at g within is)
-    (subst (λ (l : List ℕ). AreVectorsSoFar given ws (drop at given) l left vectors) (drop_item ws at w within_too is_too) so)
+-- in each turn the element is taken from what is left
+turned : {X Y : Type 0} (P : List X → List Y → Type 0) (xs : List X) (ys : List Y) (at : ℕ) (x : X) (y : Y) → at < length xs → x ≡ get_or xs at x → at < length ys → y ≡ get_or ys at y → P (drop at xs) (drop at ys) →
+    P (x ∷ drop (at + 1) xs) (y ∷ drop (at + 1) ys)
+turned {X = X} {Y = Y} P xs ys at x y within is within_too is_too so =
+    subst (λ (l : List X). P l (y ∷ drop (at + 1) ys)) (drop_item xs at x within is) (subst (λ (l : List Y). P (drop at xs) l) (drop_item ys at y within_too is_too) so)
 
-pub one_given : (given : List (Option ℕ)) (ws : List ℕ) (rest : List (Option ℕ)) (rest_widths : List ℕ) (left w n : ℕ) (before now : List (List CaseBit)) (vector : List CaseBit) → vector ≡ fixed_bits w n → now ≡ before ++ vector ∷ [] →
-    AreVectorsSoFar given ws (Some n ∷ rest) (w ∷ rest_widths) left before → AreVectorsSoFar given ws rest rest_widths left now
-one_given given ws rest rest_widths left w n before now vector is pushed so = record {
-  each = so.each.1;
-  counted = so.counted;
-  few = so.few;
-  made = moved before now vector (vectors_of rest rest_widths) (vectors_of given ws) pushed (ap (λ (v : List CaseBit). before ++ v ∷ vectors_of rest rest_widths) is ∙ so.made);
-}
+sum_both : (xs ys : List ℕ) → sum_of (xs ++ ys) ≡ sum_of xs + sum_of ys
+sum_both [] ys = omega arith
+sum_both (x ∷ xs) ys = let h = sum_both xs ys in omega (arith, h)
 
-pub one_open : (given : List (Option ℕ)) (ws : List ℕ) (rest : List (Option ℕ)) (rest_widths : List ℕ) (left w : ℕ) (before now : List (List CaseBit)) (vector : List CaseBit) → vector ≡ place_bits w (left - w) → now ≡ before ++ vector ∷ [] →
-    AreVectorsSoFar given ws (None ∷ rest) (w ∷ rest_widths) left before → AreVectorsSoFar given ws rest rest_widths (left - w) now
-one_open given ws rest rest_widths left w before now vector is pushed so =
-    let left_is : left ≡ w + sum_of (open_widths rest rest_widths) = so.counted in
+more_vectors : (given : List (Option ℕ)) (ws : List ℕ) (g : Option ℕ) (rest : List (Option ℕ)) (w : ℕ) (rest_widths : List ℕ) (left now_left : ℕ) (before now : List (List CaseBit)) (vector : List CaseBit) →
+    now_left ≡ left - sum_of (open_one g w) → vector ≡ vector_of g w now_left → now ≡ before ++ vector ∷ [] → AreVectorsSoFar given ws (g ∷ rest) (w ∷ rest_widths) left before → AreVectorsSoFar given ws rest rest_widths now_left now
+more_vectors given ws g rest w rest_widths left now_left before now vector less is pushed so =
+    let counted : left ≡ sum_of (open_one g w ++ open_widths rest rest_widths) = so.counted in
+    let split = sum_both (open_one g w) (open_widths rest rest_widths) in
     let few : left ≤ 16 = so.few in
-    let behind : left - w ≡ sum_of (open_widths rest rest_widths) = omega (arith, left_is) in
+    let behind : now_left ≡ sum_of (open_widths rest rest_widths) = omega (arith, less, counted, split) in
     record {
       each = so.each.1;
       counted = behind;
-      few = omega (arith, few);
+      few = omega (arith, few, less);
       made = moved before now vector (vectors_of rest rest_widths) (vectors_of given ws) pushed
-          (ap (λ (v : List CaseBit). before ++ v ∷ vectors_of rest rest_widths) (is ∙ ap (place_bits w) behind) ∙ so.made);
+          (ap (λ (v : List CaseBit). before ++ v ∷ vectors_of rest rest_widths) (is ∙ ap (vector_of g w) behind) ∙ so.made);
     }
 
-pub fits_left : (given : List (Option ℕ)) (ws : List ℕ) (rest : List (Option ℕ)) (rest_widths : List ℕ) (left w : ℕ) (before : List (List CaseBit)) → AreVectorsSoFar given ws (None ∷ rest) (w ∷ rest_widths) left before → w ≤ left
-fits_left given ws rest rest_widths left w before so = let left_is : left ≡ w + sum_of (open_widths rest rest_widths) = so.counted in omega (arith, left_is)
+pub vectors_step : (given : List (Option ℕ)) (ws : List ℕ) (at : ℕ) (g : Option ℕ) (w left now_left : ℕ) (before now : List (List CaseBit)) (vector : List CaseBit) → at < length given → g ≡ get_or given at g → at < length ws → w ≡ get_or ws at w →
+    now_left ≡ left - sum_of (open_one g w) → vector ≡ vector_of g w now_left → now ≡ before ++ vector ∷ [] → AreVectorsSoFar given ws (drop at given) (drop at ws) left before →
+    AreVectorsSoFar given ws (drop (at + 1) given) (drop (at + 1) ws) now_left now
+vectors_step given ws at g w left now_left before now vector within is within_too is_too less vector_is pushed so =
+    more_vectors given ws g (drop (at + 1) given) w (drop (at + 1) ws) left now_left before now vector less vector_is pushed
+    (turned (λ (l : List (Option ℕ)) (k : List ℕ). AreVectorsSoFar given ws l k left before) given ws at g w within is within_too is_too so)
+
+-- the element's places are among those that are left
+fits : (given : List (Option ℕ)) (ws : List ℕ) (g : Option ℕ) (rest : List (Option ℕ)) (w : ℕ) (rest_widths : List ℕ) (left : ℕ) (before : List (List CaseBit)) → AreVectorsSoFar given ws (g ∷ rest) (w ∷ rest_widths) left before →
+    (sum_of (open_one g w) ≤ left) × (left ≤ 16)
+fits given ws g rest w rest_widths left before so =
+    let counted : left ≡ sum_of (open_one g w ++ open_widths rest rest_widths) = so.counted in
+    let split = sum_both (open_one g w) (open_widths rest rest_widths) in
+    (omega (arith, counted, split), so.few)
+
+pub vectors_fit : (given : List (Option ℕ)) (ws : List ℕ) (at : ℕ) (g : Option ℕ) (w left : ℕ) (before : List (List CaseBit)) → at < length given → g ≡ get_or given at g → at < length ws → w ≡ get_or ws at w →
+    AreVectorsSoFar given ws (drop at given) (drop at ws) left before → (sum_of (open_one g w) ≤ left) × (left ≤ 16)
+vectors_fit given ws at g w left before within is within_too is_too so =
+    fits given ws g (drop (at + 1) given) w (drop (at + 1) ws) left before
+    (turned (λ (l : List (Option ℕ)) (k : List ℕ). AreVectorsSoFar given ws l k left before) given ws at g w within is within_too is_too so)
 
 pub all_vectors : (given : List (Option ℕ)) (ws : List ℕ) (rest : List (Option ℕ)) (rest_widths : List ℕ) (left : ℕ) (vectors : List (List CaseBit)) → rest ≡ [] → AreVectorsSoFar given ws rest rest_widths left vectors → vectors ≡ vectors_of given ws
 all_vectors given ws rest rest_widths left vectors none so =
     sym (append-nil vectors) ∙ (ap (λ (l : List (Option ℕ)). vectors ++ vectors_of l rest_widths) (sym none) ∙ so.made)
 
 -- the same of widths
-pub open_turn : (given : List (Option ℕ)) (ws : List ℕ) (at g_width : ℕ) (g : Option ℕ) (made : List ℕ) → at < length given → g ≡ get_or given at g → at < length ws → g_width ≡ get_or ws at g_width →
-    AreOpenSoFar given ws (drop at given) (drop at ws) made → AreOpenSoFar given ws (g ∷ drop (at + 1) given) (g_width ∷ drop (at + 1) ws) made
-open_turn given ws at w g made within is within_too is_too so =
-    subst (λ (l : List (Option ℕ)). AreOpenSoFar given ws l (w ∷ drop (at + 1) ws) made) (drop_item given at g within is)
-    (subst (λ (l : List ℕ). AreOpenSoFar given ws (drop at given) l made) (drop_item ws at w within_too is_too) so)
-
-pub given_passed : (given : List (Option ℕ)) (ws : List ℕ) (rest : List (Option ℕ)) (rest_widths : List ℕ) (w n : ℕ) (made : List ℕ) → AreOpenSoFar given ws (Some n ∷ rest) (w ∷ rest_widths) made → AreOpenSoFar given ws rest rest_widths made
-given_passed given ws rest rest_widths w n made so = record { each = so.each.1; widths = so.widths }
-
-pub open_taken : (given : List (Option ℕ)) (ws : List ℕ) (rest : List (Option ℕ)) (rest_widths : List ℕ) (w : ℕ) (made now : List ℕ) → now ≡ made ++ w ∷ [] → AreOpenSoFar given ws (None ∷ rest) (w ∷ rest_widths) made → AreOpenSoFar given ws rest rest_widths now
-open_taken given ws rest rest_widths w made now pushed so = record { each = so.each.1; widths = moved made now w (open_widths rest rest_widths) (open_widths given ws) pushed so.widths }
+pub open_step : (given : List (Option ℕ)) (ws : List ℕ) (at : ℕ) (g : Option ℕ) (w : ℕ) (before now : List ℕ) → at < length given → g ≡ get_or given at g → at < length ws → w ≡ get_or ws at w → now ≡ before ++ open_one g w →
+    AreOpenSoFar given ws (drop at given) (drop at ws) before → AreOpenSoFar given ws (drop (at + 1) given) (drop (at + 1) ws) now
+open_step given ws at g w before now within is within_too is_too pushed so =
+    let here = turned (λ (l : List (Option ℕ)) (k : List ℕ). AreOpenSoFar given ws l k before) given ws at g w within is within_too is_too so in
+    record {
+      each = here.each.1;
+      widths = ap (λ (l : List ℕ). l ++ open_widths (drop (at + 1) given) (drop (at + 1) ws)) pushed ∙ (append_assoc before (open_one g w) (open_widths (drop (at + 1) given) (drop (at + 1) ws)) ∙ here.widths);
+    }
 
 pub all_open : (given : List (Option ℕ)) (ws : List ℕ) (rest : List (Option ℕ)) (rest_widths : List ℕ) (made : List ℕ) → rest ≡ [] → AreOpenSoFar given ws rest rest_widths made → made ≡ open_widths given ws
 all_open given ws rest rest_widths made none so = sym (append-nil made) ∙ (ap (λ (l : List (Option ℕ)). made ++ open_widths l rest_widths) (sym none) ∙ so.widths)
+
+-- bits that are counted as far as a number goes
+pub counted_so_far : (bits : ℕ) (rest widths : List ℕ) → rest ≡ [] → bits ≤ 4294967295 → min (bits + sum_of rest) 4294967295 ≡ min (sum_of widths) 4294967295 → bits ≡ min (sum_of widths) 4294967295
+counted_so_far bits rest widths none fits so =
+    let zero_left : sum_of rest ≡ 0 = ap sum_of none in
+    omega (arith, zero_left, fits, so)
+
+-- one more of the same
+pub same_more : (count at w : ℕ) (before now all : List ℕ) → at < count → now ≡ before ++ w ∷ [] → before ++ replicate (count - at) w ≡ all → now ++ replicate (count - (at + 1)) w ≡ all
+same_more count at w before now all within pushed so =
+    let more : count - at ≡ suc (count - (at + 1)) = omega arith in
+    moved before now w (replicate (count - (at + 1)) w) all pushed (ap (λ (n : ℕ). before ++ replicate n w) (sym more) ∙ so)

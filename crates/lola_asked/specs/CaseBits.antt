@@ -31,9 +31,13 @@ abbrev pub fixed_bits : ℕ → ℕ → List CaseBit
 fixed_bits zero n = []
 fixed_bits (suc width) n = Fixed (nat_eq (n % 2) 1) ∷ fixed_bits width (n / 2)
 
+-- the vector of an element, where so many places are left below it
+abbrev pub vector_of : Option ℕ → ℕ → ℕ → List CaseBit
+vector_of None width left = place_bits width left
+vector_of (Some n) width left = fixed_bits width n
+
 -- the vectors of all elements: what isn't given has the places above those of what is free behind it
 abbrev pub vectors_of : List (Option ℕ) → List ℕ → List (List CaseBit)
 vectors_of [] ws = []
 vectors_of (g ∷ given) [] = []
-vectors_of (Some n ∷ given) (w ∷ ws) = fixed_bits w n ∷ vectors_of given ws
-vectors_of (None ∷ given) (w ∷ ws) = place_bits w (sum_of (open_widths given ws)) ∷ vectors_of given ws
+vectors_of (g ∷ given) (w ∷ ws) = vector_of g w (sum_of (open_widths given ws)) ∷ vectors_of given ws

@@ -28,12 +28,15 @@ GivenFits (Some n) width = n < 2 ^ width
 abbrev pub IsSetting : FlatTree → Setting → Type 0
 IsSetting F s = AreEach GivenFits s.given (all_widths F s)
 
--- the widths of what isn't given
+-- the width of an element that isn't given, and the widths of all that aren't
+abbrev pub open_one : Option ℕ → ℕ → List ℕ
+open_one None w = w ∷ []
+open_one (Some n) w = []
+
 abbrev pub open_widths : List (Option ℕ) → List ℕ → List ℕ
 open_widths [] ws = []
 open_widths (g ∷ given) [] = []
-open_widths (None ∷ given) (w ∷ ws) = w ∷ open_widths given ws
-open_widths (Some n ∷ given) (w ∷ ws) = open_widths given ws
+open_widths (g ∷ given) (w ∷ ws) = open_one g w ++ open_widths given ws
 
 abbrev pub setting_widths : FlatTree → Setting → List ℕ
 setting_widths F s = open_widths s.given (all_widths F s)

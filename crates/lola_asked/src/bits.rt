@@ -1,9 +1,10 @@
 ghost use Rattle.std.specs.Prelude.{◌≡◌, ◌≤◌, ◌+◌, IfOk};
 ghost use Rattle.lola_bits.specs.Lists.{AreEach};
 ghost use Rattle.lola_flat.specs.Value.{sum_of};
-ghost use Rattle.lola_asked.specs.Setting.{GivenFits, open_widths};
-ghost use Rattle.lola_asked.specs.CaseBits.{place_bits, fixed_bits, vectors_of};
+ghost use Rattle.lola_asked.specs.Setting.{GivenFits, open_one, open_widths};
+ghost use Rattle.lola_asked.specs.CaseBits.{place_bits, fixed_bits, vector_of, vectors_of};
 
+use crate::setting::element_at;
 use lola_bits::{Memory, Seq};
 use std::alloc::Global;
 
@@ -42,6 +43,32 @@ fn fixed_bits(alloc: Global, width: u32, number: u128) -> Result<Seq<CaseBit>, M
     Ok(Seq::of(bits))
 }
 
+/// How many places an element takes that may be given.
+fn open_bits(given: Option<u128>, width: u32) -> u32
+    ensures { result ≡ sum_of (open_one given width) }
+{
+    match given {
+        Some(_) => 0,
+        None => width,
+    }
+}
+
+/// The vector of an element, where so many places are left below it.
+fn vector_of(
+    alloc: Global,
+    given: Option<u128>,
+    width: u32,
+    left: u32,
+) -> Result<Seq<CaseBit>, Memory>
+    requires { left + sum_of (open_one given width) ≤ 64 }
+    ensures { IfOk result (λ made. made ≡ vector_of given width left) }
+{
+    match given {
+        Some(number) => fixed_bits(alloc, width, number),
+        None => place_bits(alloc, width, left),
+    }
+}
+
 /// The vectors of all elements. The bits of what isn't given are those of the case's number, the last element's the
 /// lowest.
 pub(crate) fn vectors_of(
@@ -58,15 +85,9 @@ pub(crate) fn vectors_of(
     let mut left = bits;
     let mut vectors = Vec::new(alloc);
     for at in 0..given.len() {
-        let width = widths[at];
-        let vector = match given[at] {
-            Some(number) => fixed_bits(alloc, width, number)?,
-            None => {
-                left -= width;
-                place_bits(alloc, width, left)?
-            }
-        };
-        vectors.push(vector)?;
+        let (number, width) = element_at(given, widths, at);
+        left -= open_bits(number, width);
+        vectors.push(vector_of(alloc, number, width, left)?)?;
     }
     Ok(vectors)
 }

@@ -1,10 +1,10 @@
-ghost use Rattle.std.specs.Prelude.{◌≡◌, ◌++◌, ◌^◌, ◌-◌, min, length, replicate, IfOk, OnOk};
+ghost use Rattle.std.specs.Prelude.{◌≡◌, ◌<◌, ◌++◌, ◌^◌, ◌-◌, min, length, get_or, replicate, IfOk, OnOk};
 ghost use Rattle.lola_bits.specs.Lists.{AreEach};
 ghost use Rattle.lola_flat.specs.Tree.{flat_tree};
 ghost use Rattle.lola_flat.specs.Value.{sum_of};
 ghost use Rattle.lola_flat.specs.Formed.{IsFormed};
 ghost use Rattle.lola_cases.specs.Free.{free_widths};
-ghost use Rattle.lola_asked.specs.Setting.{all_widths, GivenFits, IsSetting, open_widths, setting_widths};
+ghost use Rattle.lola_asked.specs.Setting.{element_widths, all_widths, GivenFits, IsSetting, open_one, open_widths, setting_widths};
 
 use lola_bits::{Memory, Seq};
 use lola_cases::{free_elements, free_widths};
@@ -31,8 +31,18 @@ pub struct Setting {
 fn push_widths(widths: &mut Vec<u32>, width: u32, count: u32) -> Result<(), AllocError>
     ensures { OnOk result (widths.new.items ≡ widths.old.items ++ replicate count width) }
 {
-    for _element in 0..count {
+    for element in 0..count {
         widths.push(width)?;
+    }
+    Ok(())
+}
+
+/// Puts the widths of the elements of further names behind others.
+fn push_further(widths: &mut Vec<u32>, further: &[Further]) -> Result<(), AllocError>
+    ensures { OnOk result (widths.new.items ≡ widths.old.items ++ element_widths further.now) }
+{
+    for name in further {
+        push_widths(widths, name.width, name.count)?;
     }
     Ok(())
 }
@@ -46,6 +56,29 @@ pub(crate) struct Widths {
     pub(crate) open: Vec<u32>,
 }
 
+/// Whether an element is given, and its width.
+pub(crate) fn element_at(given: &[Option<u128>], widths: &[u32], at: usize) -> (Option<u128>, u32)
+    requires given { at < length given.now }
+    requires widths { at < length widths.now }
+    ensures given { result.0 ≡ get_or given.now at result.0 }
+    ensures width { result.1 ≡ get_or widths.now at result.1 }
+{
+    (given[at], widths[at])
+}
+
+/// Puts the width of what isn't given behind others.
+fn push_open(widths: &mut Vec<u32>, given: Option<u128>, width: u32) -> Result<(), AllocError>
+    ensures { OnOk result (widths.new.items ≡ widths.old.items ++ open_one given width) }
+{
+    match given {
+        Some(_) => Ok(()),
+        None => {
+            widths.push(width)?;
+            Ok(())
+        }
+    }
+}
+
 /// The widths of what isn't given.
 fn open_widths(alloc: Global, given: &[Option<u128>], widths: &[u32]) -> Result<Vec<u32>, Memory>
     requires { AreEach GivenFits given.now widths.now }
@@ -53,9 +86,8 @@ fn open_widths(alloc: Global, given: &[Option<u128>], widths: &[u32]) -> Result<
 {
     let mut made = Vec::new(alloc);
     for at in 0..given.len() {
-        if given[at].is_none() {
-            made.push(widths[at])?;
-        }
+        let (number, width) = element_at(given, widths, at);
+        push_open(&mut made, number, width)?;
     }
     Ok(made)
 }
@@ -75,9 +107,7 @@ pub(crate) fn setting_widths(
     let elements = free_elements(alloc, flat)?;
     let mut all = free_widths(alloc, elements.as_slice())?;
     let design = all.len();
-    for further in setting.further.items() {
-        push_widths(&mut all, further.width, further.count)?;
-    }
+    push_further(&mut all, setting.further.items())?;
     let open = open_widths(alloc, setting.given.items(), all.as_slice())?;
     Ok(Widths { design, all, open })
 }
