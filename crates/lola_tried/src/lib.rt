@@ -1,9 +1,7 @@
 //! Cases of a design with a clock, an input, a pad, a wire, a register and an array, worked out by hand: tests of
-//! `lola_cases`, of `lola_asked`, and of `lola_eval` below them.
+//! `lola_cases`, and of `lola_eval` below it.
 #![tactic(auto)]
 
-#[cfg(test)]
-mod askings;
 #[cfg(test)]
 mod cases;
 #[cfg(test)]
