@@ -1,5 +1,5 @@
 //! Checks a certificate of one obligation, whose name is `cnf`, against the clauses of a Cnf, and says how many lines
-//! of its refutation were taken: `checking CNF CERTIFICATE`. The Cnf is in the form of DIMACS, with its clauses a
+//! of its refutation were taken: `lrat_main CNF CERTIFICATE`. The Cnf is in the form of DIMACS, with its clauses a
 //! line each and the line `p cnf` before them.
 #![tactic(auto)]
 
