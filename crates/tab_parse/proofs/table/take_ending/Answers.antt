@@ -19,4 +19,3 @@ returns-in_err-behind-2-clause-whole c =
     let s0 = c.in_ok-behind.ensures.whole h.ends h.end_passed in
     let s1 = c.in_ok-name.ensures.whole name h.dot (rw s0 h.ends_read) tt in
     absurd (c.in_err-behind-2.ensures.whole [] (rw s1.1 h.dot_passed))
-
