@@ -1,0 +1,5 @@
+pub mod Tables
+pub mod Numbers
+pub mod Views
+pub mod Ascii
+pub mod Runs

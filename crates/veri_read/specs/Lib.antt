@@ -1,0 +1,10 @@
+pub mod Tokens
+pub mod Rules
+pub mod Bits
+pub mod Tables
+pub mod Said
+pub mod Faults
+pub mod Made
+pub mod Reading
+pub mod Gaps
+pub mod Held
