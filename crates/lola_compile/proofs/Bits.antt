@@ -12,7 +12,7 @@ use Rattle.lola_flat.specs.Tree.{SignalTree, FlatTree}
 use Rattle.lola_flat.specs.Signals.{IsClock}
 use Rattle.lola_flat.specs.Cycle.{IsGivenTo, AreGiven}
 use Rattle.lola_lower.specs.Sources.{is_clock_path, is_input, is_register, is_pad, is_wire, has_input, has_latch}
-use Rattle.lola_lower.specs.Cycles.{bits_down, element_bits, bits_of, bits_in}
+use Rattle.lola_lower.specs.Cycles.{bits_down, element_bits, bits_of, bits_in, outside_in}
 use Rattle.lola_lower.specs.Cycles as lowered
 use Rattle.lola_tree.specs.declared.named.Shape.{Shape}
 use Rattle.lola_tree.specs.declared.named.Shape.TheVariants.{Vector, Array}
@@ -75,11 +75,6 @@ same_either : (b : Bool) (bits : List Bool) → cond b bits bits ≡ bits
 same_either true bits = refl
 same_either false bits = refl
 
--- one value a row
-single_rows : (f : Signal → ℕ) (xs : List Signal) → map (λ (n : ℕ). n ∷ []) (map f xs) ≡ map (λ (x : Signal). f x ∷ []) xs
-single_rows f [] = refl
-single_rows f (x ∷ xs) = ap (λ (rows : List (List ℕ)). (f x ∷ []) ∷ rows) (single_rows f xs)
-
 -- tables over signals
 module _ (flat : Signal → SignalTree) where
   -- what holds at each number holds of each signal
@@ -97,6 +92,13 @@ module _ (flat : Signal → SignalTree) where
   at_number among g h [] same n = refl
   at_number among g h (x ∷ xs) same zero = same x (inl refl)
   at_number among g h (x ∷ xs) same (suc n) = at_number among g h xs (λ y later. same y (inr later)) n
+
+  -- and of what comes from outside, one number each
+  pub at_outside : (g : Signal → ℕ) (h : Signal → List Bool) (xs : List Signal) → ((x : Signal) → IsIn x xs → cond (is_pad (flat x).kind) (element_bits (flat x).width (g x ∷ [])) [] ≡ h x) → (n : ℕ) →
+      outside_in (slice_get (map flat xs) n) (get_or (map g xs) n 0) ≡ of_some h (slice_get xs n)
+  at_outside g h [] same n = refl
+  at_outside g h (x ∷ xs) same zero = ap (λ (l : List Bool). cond (is_pad (flat x).kind) l []) (sym (append-nil (bits_down (flat x).width (g x)))) ∙ same x (inl refl)
+  at_outside g h (x ∷ xs) same (suc n) = at_outside g h xs (λ y later. same y (inr later)) n
 
 -- the signals of the first numbers
 one_more : (h : Signal → List Bool) (zs : List Signal) (k : ℕ) → flat_map h (take (suc k) zs) ≡ flat_map h (take k zs) ++ of_some h (slice_get zs k)
@@ -191,8 +193,7 @@ module _ (S : SourceTree) (order : List ℕ) (widths : (x : Signal) → IsIn x (
 
   pub outside_pads : (inp : Values) → lowered.outside_bits F (outside_of S inp) ≡ pad_bits S order inp
   outside_pads inp =
-      ap (lowered.pad_bits F) (single_rows (λ (x : Signal). outside_by x.kind (inp x.path 0)) (signals S))
-      ∙ (λ i. flat_map (λ (n : ℕ). at_number (flat_signal S) (λ (t : SignalTree). is_pad t.kind) (λ (x : Signal). outside_by x.kind (inp x.path 0) ∷ []) (λ (x : Signal). if_pad x.kind (signal_bits inp x)) (signals S) (λ x there. by_outside inp x there x.kind refl) n i) order)
+      λ i. flat_map (λ (n : ℕ). at_outside (flat_signal S) (λ (x : Signal). outside_by x.kind (inp x.path 0)) (λ (x : Signal). if_pad x.kind (signal_bits inp x)) (signals S) (λ x there. by_outside inp x there x.kind refl) n i) order
 
   by_pad : (k : Kind) (wide : ℕ) (values : List ℕ) (bits : List Bool) → element_bits wide values ≡ bits → cond (is_pad (flat_kind k)) (element_bits wide (shown_by k values)) [] ≡ if_pad k bits
   by_pad clock wide values bits same = refl

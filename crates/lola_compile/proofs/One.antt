@@ -4,7 +4,6 @@ use Rattle.lola_order.specs.Graph.{Graph, IsOrder}
 use Rattle.lola_net.specs.declared.net.Net.{Net}
 use Rattle.lola_lower.specs.Steps.{net_of}
 use Rattle.lola_tree.specs.Tree.{SourceTree}
-use Rattle.lola_tree.specs.design.Signals.{signals}
 use Rattle.lola_flat.specs.Tree.{FlatTree}
 use Rattle.lola_unfold.specs.Flat.{flat_graph, flat_design, IsElaborated}
 use Rattle.lola_source.specs.Answer.{HasOneAnswer}
