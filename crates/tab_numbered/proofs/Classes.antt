@@ -64,61 +64,61 @@ ValuesBehind = (W N : Env ℕ) (forms : Names Form) (values : Names StateValue) 
     HoldValues (more_numbers W N (row_exprs rows numbers (length W.signals))) (with_rows rows values) (with_numbers rows numbers (length W.signals))
 
 module _ (rows_behind : RowsBehind) (S : SourceTree) (T : TableTree) (b : InsideTree) (loads turns : ℕ) (counts : Bool) (registers : List (List ℕ) → Option Form) (W : Env ℕ) (g : Given) (given : AreGivenRows S T b loads turns counts registers W g) where
-  abbrev n0 : ℕ
-  n0 = length W.signals
+  abbrev fields_from : ℕ
+  fields_from = length W.signals
 
-  abbrev W1 : Env ℕ
-  W1 = field_widths T g W
+  abbrev field_table : Env ℕ
+  field_table = field_widths T g W
 
-  abbrev n1 : ℕ
-  n1 = length W1.signals
+  abbrev lets_from : ℕ
+  lets_from = length field_table.signals
 
   word_rows : AreRows W (word_forms S T) (word_numbers g)
   word_rows = record { word = given.word; count = tt; loaded = λ j. tt; turned = λ j. tt; named = λ name. tt; register = λ path. tt }
 
-  fields : (name : List ℕ) → HasRowAt W1 (field_forms S T name) (field_numbers T g n0 name)
+  fields : (name : List ℕ) → HasRowAt field_table (field_forms S T name) (field_numbers T g fields_from name)
   fields name = (rows_behind W (word_forms S T) (word_numbers g) T.fields word_rows).named name
 
-  bare_rows : AreRows W1 (bare_forms S T b.phases loads turns counts registers) (bare_numbers T g n0)
+  bare_rows : AreRows field_table (bare_forms S T b.phases loads turns counts registers) (bare_numbers T g fields_from)
   bare_rows =
-      let es = field_exprs T g n0 in
+      let es = field_exprs T g fields_from in
       let F = bare_forms S T b.phases loads turns counts registers in
       record {
         word = row_keeps es W F.word (Some g.word) given.word;
         count = row_keeps es W F.count g.count given.count;
         loaded = λ j. row_keeps es W (F.loaded j) (g.loaded j) (given.loaded j);
         turned = λ j. row_keeps es W (F.turned j) (g.turned j) (given.turned j);
-        named = λ name. named_row W1 T.states g.states 0 (states_keep es W T.states g.states 0 given.states) name (field_forms S T name) (field_numbers T g n0 name) (fields name);
+        named = λ name. named_row field_table T.states g.states 0 (states_keep es W T.states g.states 0 given.states) name (field_forms S T name) (field_numbers T g fields_from name) (fields name);
         register = λ path. row_keeps es W (registers path) (g.register path) (given.register path);
       }
 
-  pub class_rows : AreRows (class_widths T b g W) (class_forms S T b loads turns counts registers) (class_numbers T b g n0 n1)
-  class_rows = rows_behind W1 (bare_forms S T b.phases loads turns counts registers) (bare_numbers T g n0) b.lets bare_rows
+  pub class_rows : AreRows (class_widths T b g W) (class_forms S T b loads turns counts registers) (class_numbers T b g fields_from lets_from)
+  class_rows = rows_behind field_table (bare_forms S T b.phases loads turns counts registers) (bare_numbers T g fields_from) b.lets bare_rows
 
   module _ (values_behind : ValuesBehind) (shown : List (List ℕ) → Option StateValue) (A : Arch) (i : Bits) (m : Words) (k : Option ℕ) (N : Env ℕ)
       (bare_are : AreOf (bare_forms S T b.phases loads turns counts registers) (bare_names T A i m k shown)) (word_is : AreOf (word_forms S T) (record no_names { word = Some (One i) }))
       (holds : HoldGiven T A i m k shown N g) (long : length N.signals ≡ length W.signals) where
-    abbrev N1 : Env ℕ
-    N1 = more_numbers W N (field_exprs T g n0)
+    abbrev field_held : Env ℕ
+    field_held = more_numbers W N (field_exprs T g fields_from)
 
     word_held : HoldValues N (record no_names { word = Some (One i) }) (word_numbers g)
     word_held = record { word = holds.word; count = tt; loaded = λ j. tt; turned = λ j. tt; named = λ name. tt; register = λ path. tt }
 
-    fields_held : (name : List ℕ) → HoldsAt N1 (field_values T i name) (field_numbers T g n0 name)
+    fields_held : (name : List ℕ) → HoldsAt field_held (field_values T i name) (field_numbers T g fields_from name)
     fields_held name = (values_behind W N (word_forms S T) (record no_names { word = Some (One i) }) (word_numbers g) T.fields word_rows word_is word_held long).named name
 
-    bare_held : HoldValues N1 (bare_names T A i m k shown) (bare_numbers T g n0)
+    bare_held : HoldValues field_held (bare_names T A i m k shown) (bare_numbers T g fields_from)
     bare_held =
-        let es = field_exprs T g n0 in
+        let es = field_exprs T g fields_from in
         let V = bare_names T A i m k shown in
         record {
           word = held_keeps es W N (Some (One i)) (Some g.word) holds.word;
           count = held_keeps es W N V.count g.count holds.count;
           loaded = λ j. held_keeps es W N (V.loaded j) (g.loaded j) (holds.loaded j);
           turned = λ j. held_keeps es W N (V.turned j) (g.turned j) (holds.turned j);
-          named = λ name. named_held N1 T.states A g.states 0 (states_held es W N T.states A g.states 0 holds.states) name (field_values T i name) (field_numbers T g n0 name) (fields_held name);
+          named = λ name. named_held field_held T.states A g.states 0 (states_held es W N T.states A g.states 0 holds.states) name (field_values T i name) (field_numbers T g fields_from name) (fields_held name);
           register = λ path. held_keeps es W N (shown path) (g.register path) (holds.register path);
         }
 
-    pub class_held : HoldValues (class_holds T b g W N) (link_names T b A i m k shown) (class_numbers T b g n0 n1)
-    class_held = values_behind W1 N1 (bare_forms S T b.phases loads turns counts registers) (bare_names T A i m k shown) (bare_numbers T g n0) b.lets bare_rows bare_are bare_held (long_keeps (field_exprs T g n0) W N long)
+    pub class_held : HoldValues (class_holds T b g W N) (link_names T b A i m k shown) (class_numbers T b g fields_from lets_from)
+    class_held = values_behind field_table field_held (bare_forms S T b.phases loads turns counts registers) (bare_names T A i m k shown) (bare_numbers T g fields_from) b.lets bare_rows bare_are bare_held (long_keeps (field_exprs T g fields_from) W N long)
