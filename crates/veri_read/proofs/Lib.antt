@@ -3,3 +3,4 @@ pub mod Numbers
 pub mod Views
 pub mod Ascii
 pub mod Runs
+pub mod Pieces

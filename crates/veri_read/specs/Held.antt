@@ -1,5 +1,5 @@
 -- What the code holds, as the definitions speak of it.
-use Rattle.std.specs.Prelude.{◌≡◌, ◌⊎◌, ℕ, List, map, drop, Option, Some, None, Result, Ok, Err}
+use Rattle.std.specs.Prelude.{◌≡◌, ◌<◌, ◌≤◌, ◌⊎◌, ℕ, List, length, map, drop, Option, Some, None, Result, Ok, Err}
 use Rattle.veri_read.specs.declared.error.VeriError.{VeriError}
 use Rattle.veri_read.specs.declared.error.VeriError.TheVariants as fault
 use Rattle.std.specs.Borrow.{Bor}
@@ -76,7 +76,13 @@ abbrev pub Took : Said × Option VeriError → Said → Result (Unit {0}) VeriEr
 Took due now (Ok u) = due ≡ (now, None)
 Took due now (Err f) = (due ≡ (now, Some f)) ⊎ (f ≡ fault.Memory)
 
--- what is said from a place of a text on, before a piece and behind it
-abbrev pub IsPiece : ℕ → ℕ → List ℕ → Said → Said → Result (Unit {0}) VeriError → Type 0
-IsPiece at next bytes before now (Ok u) = said_by (items_from 0 at (drop at bytes)) before ≡ said_by (items_from 0 next (drop next bytes)) now
-IsPiece at next bytes before now (Err f) = Took (said_by (items_from 0 at (drop at bytes)) before) now (Err f)
+-- a reader that stands at a later place says behind it what it says of the text from the place before on
+pub record GoesOn (at next : ℕ) (bytes : List ℕ) (before now : Said) : Type 0 where
+  pub later : at < next
+  pub within : next ≤ length bytes
+  pub same : said_by (items_from 0 at (drop at bytes)) before ≡ said_by (items_from 0 next (drop next bytes)) now
+
+-- a piece of a text was taken in, or the first fault from there on stands in it
+abbrev pub IsPiece : ℕ → List ℕ → Said → Said → Result ℕ VeriError → Type 0
+IsPiece at bytes before now (Ok next) = GoesOn at next bytes before now
+IsPiece at bytes before now (Err f) = Took (said_by (items_from 0 at (drop at bytes)) before) now (Err f)

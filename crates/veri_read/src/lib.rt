@@ -15,6 +15,7 @@ mod reader;
 mod rules;
 mod symbol;
 mod table;
+mod text;
 mod token;
 
 pub use error::VeriError;
