@@ -4,3 +4,7 @@ pub mod Views
 pub mod Ascii
 pub mod Runs
 pub mod Pieces
+pub mod Sound
+pub mod Makes
+pub mod Marks
+pub mod Nets

@@ -6,5 +6,6 @@ pub mod Said
 pub mod Faults
 pub mod Made
 pub mod Reading
+pub mod Making
 pub mod Gaps
 pub mod Held
