@@ -1,10 +1,9 @@
 -- What is made, step by step.
-use Rattle.std.proofs.Common.{◌≡◌, ℕ, suc, ◌+◌, List, [], ◌∷◌, drop, slice_get, Option, Some, None, refl, sym, ap, ◌∙◌, arith}
+use Rattle.std.proofs.Common.{◌≡◌, ℕ, suc, ◌+◌, List, ◌∷◌, drop, slice_get, Option, Some, sym, ap, ◌∙◌, arith}
 use Rattle.lola_bits.proofs.Places.{drop_found}
 use Rattle.veri_read.specs.declared.literal.Declared.{Declared}
 use Rattle.veri_read.specs.Tables.{Names}
-use Rattle.veri_read.specs.Said.{Assigned}
-use Rattle.veri_read.specs.Made.{Made, with_input, with_inputs, with_register, with_registers, with_assigned, with_assigns, then_made}
+use Rattle.veri_read.specs.Made.{Made, with_input, with_inputs, with_register, with_registers}
 
 -- what is left begins with the item here
 pub left_here : {X : Type 0} (xs : List X) (n : ℕ) (x : X) → slice_get xs n ≡ Some x → drop n xs ≡ x ∷ drop (n + 1) xs

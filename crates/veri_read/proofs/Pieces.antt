@@ -1,5 +1,5 @@
 -- Tokens of a text from a place on.
-use Rattle.std.proofs.Common.{◌≡◌, ◌≤◌, ◌<◌, ◌⊎◌, ℕ, zero, suc, ◌+◌, ◌-◌, Bool, true, false, cond, List, [], ◌∷◌, length, get_or, take, drop, subst, nat_eq, bytes_eq, refl, sym, ap, rules, ◌∙◌, inl, inr, Option, Some, None, Result, Ok, Err, arith, length-take, length-drop, true≢false}
+use Rattle.std.proofs.Common.{◌≡◌, ◌≤◌, ◌<◌, ℕ, zero, suc, ◌+◌, ◌-◌, Bool, true, false, cond, List, [], ◌∷◌, length, get_or, take, drop, subst, nat_eq, refl, sym, ap, rules, ◌∙◌, inl, inr, Option, Some, None, Result, Ok, Err, arith, length-take, length-drop}
 use Rattle.std.specs.Prelude.{codes}
 use Rattle.std.specs.List.{prefix_len}
 use Rattle.std.proofs.lemmas.Bool.{cases_Bool}

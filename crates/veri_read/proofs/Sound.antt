@@ -1,17 +1,15 @@
 -- What is made uses only what is there.
-use Rattle.std.proofs.Common.{◌≡◌, ◌≤◌, ◌<◌, ℕ, zero, suc, ◌+◌, ◌*◌, ◌/◌, Bool, true, false, cond, List, [], ◌∷◌, ◌++◌, length, nat_eq, nat_lt, bytes_eq, refl, sym, ap, subst, ◌∙◌, Option, Some, None, arith}
+use Rattle.std.proofs.Common.{◌≡◌, ◌≤◌, ℕ, zero, suc, ◌+◌, ◌*◌, ◌/◌, Bool, true, false, cond, List, [], ◌∷◌, ◌++◌, length, nat_eq, nat_lt, bytes_eq, refl, sym, ap, subst, ◌∙◌, Some, arith}
 use Rattle.std.specs.Prelude.{◌&&◌}
 use Rattle.std.specs.List.{AllByRecursion}
 use Rattle.std.proofs.lemmas.Bool.Decides.{nat_tests}
 use Rattle.lola_bits.proofs.Places.{length_more}
 use Rattle.lola_alg.specs.Algebra.{Stays}
 use Rattle.lola_net.specs.declared.node.Node.{Node}
-use Rattle.lola_net.specs.declared.node.Node.TheVariants.{Free, Latch, Pad}
 use Rattle.lola_net.specs.Equations.{uses_smaller, ordered_from, is_ordered}
-use Rattle.lola_gate.specs.Gates.{gates_calls, gates_meaning, knows_literal, flipped}
+use Rattle.lola_gate.specs.Gates.{gates_calls, gates_meaning, knows_literal}
 use Rattle.veri_read.specs.Tables.{Names, find, put}
-use Rattle.veri_read.specs.Said.{Term, Constant, Of}
-use Rattle.veri_read.specs.Made.{Made, literal_or, literal_of, with_literal, with_node}
+use Rattle.veri_read.specs.Made.{Made, literal_or}
 use Rattle.veri_read.specs.Making.{IsSound}
 use Rattle.veri_read.proofs.Ascii.{both_pass}
 

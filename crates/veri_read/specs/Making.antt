@@ -1,5 +1,5 @@
 -- What the maker of a net holds, as the definitions speak of it.
-use Rattle.std.specs.Prelude.{◌≡◌, ◌≤◌, ◌/◌, ℕ, true, List, length, Option, Some, None, Result, Ok, Err}
+use Rattle.std.specs.Prelude.{◌≡◌, ◌≤◌, ◌/◌, true, length, Option, Some, None, Result, Ok, Err}
 use Rattle.std.specs.List.{AllByRecursion}
 use Rattle.lola_alg.specs.declared.algebra.AlgError.{AlgError}
 use Rattle.lola_alg.specs.declared.algebra.AlgError.TheVariants.{Full, Memory}
