@@ -43,7 +43,7 @@ flat_both f (x ∷ xs) ys =
     let h = flat_both f xs ys in
     omega arith
 
-names_long : (text : List ℕ) (width : ℕ) → length (names_down text width) ≡ width
+pub names_long : (text : List ℕ) (width : ℕ) → length (names_down text width) ≡ width
 names_long text zero = refl
 names_long text (suc bit) = ap suc (names_long text bit)
 

@@ -2,7 +2,7 @@
 use Rattle.std.proofs.Common.{◌≡◌, ◌⊎◌, ℕ, zero, suc, ◌+◌, ◌<◌, ◌≤◌, Bool, true, false, cond, ◌&&◌, List, [], ◌∷◌, ◌++◌, length, map, Option, Some, None, inl, inr, refl, sym, ◌∙◌, ap, ap₂, subst, arith, append-nil, append_assoc}
 use Rattle.std.specs.Prelude.{nat_eq, nat_lt, bytes_eq, ◌/◌, ◌*◌}
 use Rattle.std.specs.List.{AllByRecursion}
-use Rattle.std.proofs.lemmas.Bool.{cases_Bool, and_from, and_parts, eqb-true, eq-eqb, lt-ltb}
+use Rattle.std.proofs.lemmas.Bool.{cases_Bool, and_from, and_parts, eqb-true, eqb-false, eq-eqb, lt-ltb, le-ltb, ltb-true, ltb-false}
 use Rattle.std.proofs.lemmas.Slice.Eq.{bytes_eq-Decides}
 use Rattle.lola_bits.proofs.All.{all_weaker, all_append}
 use Rattle.lola_bits.proofs.Options.{some_same}
@@ -16,56 +16,112 @@ use Rattle.lola_gate.specs.Law.{gates_law, flipped_node, known_both, known_const
 use Rattle.lola_flat.specs.Value.{Env}
 use Rattle.lola_eval.specs.Means.{EnvKnown}
 
--- what a call of two literals leaves: the nodes, or a gate behind them
+-- what a call of two literals leaves: the nodes, or a gate of both behind them where there is a place, with its literal
+abbrev pub IsPlaced : List Node → ℕ → ℕ → List Node × ℕ → Type 0
+IsPlaced d a b made = (made ≡ (d ++ Gate a b ∷ [], 2 * suc (length d))) × (nat_lt (length (gates d)) 1048576 ≡ true)
+
+-- a gate is new where its literals rise and the call of both puts a node behind the others
+abbrev pub is_longer : List Node → Option (List Node × ℕ) → Bool
+is_longer d None = false
+is_longer d (Some made) = nat_lt (length d) (length made.0)
+
+abbrev pub is_new : List Node → ℕ → ℕ → Bool
+is_new d a b = nat_lt a b && is_longer d (gates_calls.both d a b)
+
 abbrev pub OneMore : List Node → List Node → Type 0
-OneMore d e = (e ≡ d) ⊎ ((a : ℕ) × (b : ℕ) × (e ≡ d ++ Gate a b ∷ []))
+OneMore d e = (e ≡ d) ⊎ ((a : ℕ) × (b : ℕ) × (e ≡ d ++ Gate a b ∷ []) × (nat_lt (length (gates d)) 1048576 ≡ true) × (is_new d a b ≡ true))
+
+length_one : (d : List Node) (x : Node) → length d < length (d ++ x ∷ [])
+length_one [] x = omega arith
+length_one (y ∷ d) x = let h = length_one d x in omega arith
 
 module _ (d : List Node) (made : List Node × ℕ) where
-  stays_as : (l : ℕ) → Some (d, l) ≡ Some made → OneMore d made.0
-  stays_as l e = inl (ap (λ (m : List Node × ℕ). m.0) (sym (some_same (d, l) made e)))
+  -- of literals that don't fall
+  module _ (a b : ℕ) where
+    abbrev Outcome : Type 0
+    Outcome = (made.0 ≡ d) ⊎ (IsPlaced d a b made × (nat_eq a b ≡ false))
 
-  placed_more : (a b : ℕ) → placed a b d ≡ Some made → OneMore d made.0
-  placed_more a b e = by (nat_lt (length (gates d)) 1048576) e
-    where
-      by : (t : Bool) → cond t (Some (d ++ Gate a b ∷ [], 2 * suc (length d))) None ≡ Some made → OneMore d made.0
-      by true e = inr (a, b, ap (λ (m : List Node × ℕ). m.0) (sym (some_same (d ++ Gate a b ∷ [], 2 * suc (length d)) made e)))
-      by false e = absurd (cc)
+    stays_as : (l : ℕ) → Some (d, l) ≡ Some made → Outcome
+    stays_as l e = inl (ap (λ (m : List Node × ℕ). m.0) (sym (some_same (d, l) made e)))
 
-  shared_more : (a b : ℕ) → shared a b d ≡ Some made → OneMore d made.0
-  shared_more a b e = by (found a b d) e
-    where
-      by : (r : Option ℕ) → shared_or a b d r ≡ Some made → OneMore d made.0
-      by None e = placed_more a b e
-      by (Some n) e = stays_as (2 * n) e
+    placed_more : nat_eq a b ≡ false → placed a b d ≡ Some made → Outcome
+    placed_more other e = by (nat_lt (length (gates d)) 1048576) refl e
+      where
+        by : (t : Bool) → nat_lt (length (gates d)) 1048576 ≡ t → cond t (Some (d ++ Gate a b ∷ [], 2 * suc (length d))) None ≡ Some made → Outcome
+        by true place e = inr ((sym (some_same (d ++ Gate a b ∷ [], 2 * suc (length d)) made e), place), other)
+        by false place e = absurd (cc)
 
-  rules_more : (a b : ℕ) → both_of a b d ≡ Some made → OneMore d made.0
-  rules_more a b e = first (nat_eq a 0) e
-    where
-      fourth : (t : Bool) → cond t (Some (d, 0)) (shared a b d) ≡ Some made → OneMore d made.0
-      fourth true e = stays_as 0 e
-      fourth false e = shared_more a b e
+    shared_more : nat_eq a b ≡ false → shared a b d ≡ Some made → Outcome
+    shared_more other e = by (found a b d) e
+      where
+        by : (r : Option ℕ) → shared_or a b d r ≡ Some made → Outcome
+        by None e = placed_more other e
+        by (Some n) e = stays_as (2 * n) e
 
-      third : (t : Bool) → cond t (Some (d, a)) (cond (nat_eq (a / 2) (b / 2)) (Some (d, 0)) (shared a b d)) ≡ Some made → OneMore d made.0
-      third true e = stays_as a e
-      third false e = fourth (nat_eq (a / 2) (b / 2)) e
+    pub rules_more : both_of a b d ≡ Some made → Outcome
+    rules_more e = first (nat_eq a 0) e
+      where
+        fourth : nat_eq a b ≡ false → (t : Bool) → cond t (Some (d, 0)) (shared a b d) ≡ Some made → Outcome
+        fourth other true e = stays_as 0 e
+        fourth other false e = shared_more other e
 
-      second : (t : Bool) → cond t (Some (d, b)) (cond (nat_eq a b) (Some (d, a)) (cond (nat_eq (a / 2) (b / 2)) (Some (d, 0)) (shared a b d))) ≡ Some made → OneMore d made.0
-      second true e = stays_as b e
-      second false e = third (nat_eq a b) e
+        third : (t : Bool) → nat_eq a b ≡ t → cond t (Some (d, a)) (cond (nat_eq (a / 2) (b / 2)) (Some (d, 0)) (shared a b d)) ≡ Some made → Outcome
+        third true is e = stays_as a e
+        third false is e = fourth is (nat_eq (a / 2) (b / 2)) e
 
-      first : (t : Bool) → cond t (Some (d, 0)) (cond (nat_eq a 1) (Some (d, b)) (cond (nat_eq a b) (Some (d, a)) (cond (nat_eq (a / 2) (b / 2)) (Some (d, 0)) (shared a b d)))) ≡ Some made → OneMore d made.0
-      first true e = stays_as 0 e
-      first false e = second (nat_eq a 1) e
+        second : (t : Bool) → cond t (Some (d, b)) (cond (nat_eq a b) (Some (d, a)) (cond (nat_eq (a / 2) (b / 2)) (Some (d, 0)) (shared a b d))) ≡ Some made → Outcome
+        second true e = stays_as b e
+        second false e = third (nat_eq a b) refl e
+
+        first : (t : Bool) → cond t (Some (d, 0)) (cond (nat_eq a 1) (Some (d, b)) (cond (nat_eq a b) (Some (d, a)) (cond (nat_eq (a / 2) (b / 2)) (Some (d, 0)) (shared a b d)))) ≡ Some made → Outcome
+        first true e = stays_as 0 e
+        first false e = second (nat_eq a 1) e
+
+    pub rising : nat_lt b a ≡ false → gates_calls.both d a b ≡ both_of a b d
+    rising below = ap (λ t. cond t (both_of b a d) (both_of a b d)) below
+
+    outcome_more : nat_lt b a ≡ false → both_of a b d ≡ Some made → Outcome → OneMore d made.0
+    outcome_more below whole (inl same) = inl same
+    outcome_more below whole (inr g) =
+        let is : made.0 ≡ d ++ Gate a b ∷ [] = ap (λ (m : List Node × ℕ). m.0) g.0.0 in
+        let low = ltb-false b a below in
+        let other = eqb-false a b g.1 in
+        let longer : is_longer d (gates_calls.both d a b) ≡ true =
+        ap (is_longer d) (rising below ∙ whole) ∙ ap (λ (xs : List Node). nat_lt (length d) (length xs)) is ∙ lt-ltb (length d) (length (d ++ Gate a b ∷ [])) (length_one d (Gate a b)) in
+        inr (a, b, is, g.0.1, and_from (nat_lt a b) (is_longer d (gates_calls.both d a b)) (lt-ltb a b (strict a b low other)) longer)
+      where
+        strict : (a b : ℕ) → a ≤ b → (a ≡ b → ⊥) → a < b
+        strict zero zero low other = absurd (other refl)
+        strict zero (suc b) low other = omega arith
+        strict (suc a) zero low other = absurd (omega arith)
+        strict (suc a) (suc b) low other = (let h = strict a b (omega arith) (λ e. other (ap suc e)) in omega arith)
 
   pub both_more : (a b : ℕ) → gates_calls.both d a b ≡ Some made → OneMore d made.0
-  both_more a b e = by (nat_lt b a) e
+  both_more a b e = by (nat_lt b a) refl e
     where
-      by : (t : Bool) → cond t (both_of b a d) (both_of a b d) ≡ Some made → OneMore d made.0
-      by true e = rules_more b a e
-      by false e = rules_more a b e
+      by : (t : Bool) → nat_lt b a ≡ t → cond t (both_of b a d) (both_of a b d) ≡ Some made → OneMore d made.0
+      by true below e = outcome_more b a (le-ltb a b (let h = ltb-true b a below in omega arith)) e (rules_more b a e)
+      by false below e = outcome_more a b below e (rules_more a b e)
+
+-- what is new is made so
+pub new_is : (d : List Node) (a b : ℕ) → is_new d a b ≡ true → gates_calls.both d a b ≡ Some (d ++ Gate a b ∷ [], 2 * suc (length d))
+new_is d a b new = by (gates_calls.both d a b) refl parts.1
+  where
+    parts : (nat_lt a b ≡ true) × (is_longer d (gates_calls.both d a b) ≡ true)
+    parts = and_parts (nat_lt a b) (is_longer d (gates_calls.both d a b)) new
+
+    below : nat_lt b a ≡ false
+    below = le-ltb b a (let h = ltb-true a b parts.0 in omega arith)
+
+    by : (r : Option (List Node × ℕ)) → gates_calls.both d a b ≡ r → is_longer d r ≡ true → r ≡ Some (d ++ Gate a b ∷ [], 2 * suc (length d))
+    by None is longer = absurd (let h : false ≡ true = longer in cc)
+    by (Some made) is longer = elim (rules_more d made a b (sym (rising d made a b below) ∙ is)) [
+      | inl same ↦ absurd (let h = ltb-true (length d) (length made.0) longer in let e : length made.0 ≡ length d = ap length same in omega arith)
+      | inr g ↦ ap Some g.0.0
+    ]
 
 -- a fact of nodes that another gate doesn't touch
-module _ (fact : List Node → Bool) (more : (d : List Node) (a b : ℕ) → fact d ≡ true → fact (d ++ Gate a b ∷ []) ≡ true) where
+module _ (fact : List Node → Bool) (more : (d : List Node) (a b : ℕ) → nat_lt (length (gates d)) 1048576 ≡ true → is_new d a b ≡ true → fact d ≡ true → fact (d ++ Gate a b ∷ []) ≡ true) where
   abbrev pub knows_with : List Node → ℕ → Bool
   knows_with d l = cond (nat_eq (l / 2) 0) true (knows_literal d l && fact d)
 
@@ -94,7 +150,7 @@ module _ (fact : List Node → Bool) (more : (d : List Node) (a b : ℕ) → fac
 
   fact_stays : (d e : List Node) → OneMore d e → fact d ≡ true → fact e ≡ true
   fact_stays d e (inl same) f = ap fact same ∙ f
-  fact_stays d e (inr g) f = ap fact g.2 ∙ more d g.0 g.1 f
+  fact_stays d e (inr g) f = ap fact g.2 ∙ more d g.0 g.1 g.3 g.4 f
 
   with_stays : (d e : List Node) → Stays gates_meaning d e → OneMore d e → Stays meaning_with d e
   with_stays d e stays one = λ l k. (
@@ -248,13 +304,13 @@ grown_on a b c g h = record {
 }
 
 abbrev pub since : List Node → Meaning (List Node) ℕ
-since front = meaning_with (begins front) (begins_more front)
+since front = meaning_with (begins front) (λ d a b place new. begins_more front d a b)
 
 pub since_law : (front : List Node) → IsAlgebra gates_calls (since front)
-since_law front = law_with (begins front) (begins_more front)
+since_law front = law_with (begins front) (λ d a b place new. begins_more front d a b)
 
 pub since_known : (d : List Node) (E : Env (List ℕ)) → EnvKnown gates_meaning d E → EnvKnown (since d) d E
-since_known d E known = env_with (begins d) (begins_more d) d E known (begins_itself d)
+since_known d E known = env_with (begins d) (λ c a b place new. begins_more d c a b) d E known (begins_itself d)
 
 pub grown_since : (d e : List Node) → 1 ≤ length d → is_ordered d ≡ true → Stays (since d) d e → Grown d e
-grown_since d e some order stays = grown_from d e (fact_kept (begins d) (begins_more d) d e some order (begins_itself d) stays)
+grown_since d e some order stays = grown_from d e (fact_kept (begins d) (λ c a b place new. begins_more d c a b) d e some order (begins_itself d) stays)

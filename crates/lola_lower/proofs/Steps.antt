@@ -267,6 +267,9 @@ module _ (F : FlatTree) (formed : IsFormed F) (before after : List ℕ) (n : ℕ
     pub parts : PadParts F formed before after n split d table ready s is value release
     pub first : List Node × List ℕ
     pub second : List Node × List ℕ
+    pub value_step : equation_step gates_calls (env table []) (Some value) d ≡ Some first
+    pub release_step : equation_step gates_calls (env table []) (Some release) first.0 ≡ Some second
+    pub first_ordered : is_ordered first.0 ≡ true
     pub value_means : MeansValue gates_meaning (env table []) value d first
     pub release_means : MeansValue gates_meaning (env table []) release first.0 second
     pub ordered : is_ordered second.0 ≡ true
@@ -291,6 +294,9 @@ module _ (F : FlatTree) (formed : IsFormed F) (before after : List ℕ) (n : ℕ
         parts = parts;
         first = i.0;
         second = j.0;
+        value_step = value_step;
+        release_step = release_step;
+        first_ordered = first_ordered;
         value_means = value_means;
         release_means = release_means;
         ordered = steps_ordered (env table []) all.1 i.0.0 j.0 release_fits (env_known gates_meaning d i.0.0 (env table []) value_means.stays ready.known) first_ordered release_step;

@@ -4,3 +4,4 @@ pub mod Steps
 pub mod Ready
 pub mod Cycles
 pub mod Named
+pub mod Standing
